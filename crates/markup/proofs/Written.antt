@@ -1,0 +1,58 @@
+-- Parts of what is written: one more byte of a value or of a text, and an attribute by its parts.
+use Prim.Native.Nat.{ℕ, _+_}
+use mathlib.Core.List.{List, [], _∷_, _++_}
+use mathlib.Core.Path.{_≡_, refl, sym, ap, _∙_}
+use Rattle.std.proofs.shelf.Lists.{append-assoc, append-nil}
+use Rattle.markup.specs.declared.quotes.Quote.{Quote}
+use Rattle.markup.specs.Pens.{joined}
+use Rattle.markup.specs.Escapes.{quote-mark, escape-value, escape-text, value-then, text-then}
+use Rattle.markup.specs.Attributes.{Attribute, attribute, attributes-then}
+
+-- what comes after stands after
+pub value-rest : (q : Quote) (cs rest : List ℕ) → value-then q cs rest ≡ value-then q cs [] ++ rest
+value-rest q [] rest = refl
+value-rest q (c ∷ cs) rest =
+    ap (λ xs. escape-value q c ++ xs) (value-rest q cs rest) ∙ sym (append-assoc (escape-value q c) (value-then q cs []) rest)
+
+pub text-rest : (cs rest : List ℕ) → text-then cs rest ≡ text-then cs [] ++ rest
+text-rest [] rest = refl
+text-rest (c ∷ cs) rest =
+    ap (λ xs. escape-text c ++ xs) (text-rest cs rest) ∙ sym (append-assoc (escape-text c) (text-then cs []) rest)
+
+-- one byte more at the end
+pub value-push : (q : Quote) (cs : List ℕ) (c : ℕ) → value-then q (cs ++ c ∷ []) [] ≡ value-then q cs [] ++ escape-value q c
+value-push q [] c = append-nil (escape-value q c)
+value-push q (d ∷ cs) c =
+    ap (λ xs. escape-value q d ++ xs) (value-push q cs c) ∙ sym (append-assoc (escape-value q d) (value-then q cs []) (escape-value q c))
+
+pub text-push : (cs : List ℕ) (c : ℕ) → text-then (cs ++ c ∷ []) [] ≡ text-then cs [] ++ escape-text c
+text-push [] c = append-nil (escape-text c)
+text-push (d ∷ cs) c =
+    ap (λ xs. escape-text d ++ xs) (text-push cs c) ∙ sym (append-assoc (escape-text d) (text-then cs []) (escape-text c))
+
+-- an attribute as its writer puts it
+abbrev pub attribute-parts : Quote → List ℕ → List ℕ → List (List ℕ)
+attribute-parts q name value = (32 ∷ []) ∷ name ∷ (61 ∷ []) ∷ (quote-mark q ∷ []) ∷ value-then q value [] ∷ (quote-mark q ∷ []) ∷ []
+
+pub attribute-whole : (q : Quote) (name value : List ℕ) → joined (attribute-parts q name value) ≡ attributes-then (attribute q name value ∷ []) []
+attribute-whole q name value = ap (λ xs. 32 ∷ (name ++ (61 ∷ quote-mark q ∷ xs))) (sym (value-rest q value (quote-mark q ∷ [])))
+
+-- attributes one list after another
+pub attributes-rest : (as-well : List Attribute) (rest : List ℕ) → attributes-then as-well rest ≡ attributes-then as-well [] ++ rest
+attributes-rest [] rest = refl
+attributes-rest (a ∷ more) rest =
+    let q = a .quote in
+    let end : List ℕ → List ℕ = λ xs. quote-mark q ∷ xs in
+    let e : value-then q (a .value) (end (attributes-then more rest)) ≡ value-then q (a .value) (end (attributes-then more [])) ++ rest =
+      value-rest q (a .value) (end (attributes-then more rest))
+      ∙ ap (λ xs. value-then q (a .value) [] ++ end xs) (attributes-rest more rest)
+      ∙ sym (append-assoc (value-then q (a .value) []) (end (attributes-then more [])) rest)
+      ∙ ap (λ xs. xs ++ rest) (sym (value-rest q (a .value) (end (attributes-then more []))))
+    in
+    ap (λ xs. 32 ∷ (a .name ++ (61 ∷ quote-mark q ∷ xs))) e
+    ∙ ap (λ xs. 32 ∷ xs) (sym (append-assoc (a .name) (61 ∷ quote-mark q ∷ value-then q (a .value) (end (attributes-then more []))) rest))
+
+pub attributes-join : (first second : List Attribute) (rest : List ℕ) → attributes-then (first ++ second) rest ≡ attributes-then first (attributes-then second rest)
+attributes-join [] second rest = refl
+attributes-join (a ∷ first) second rest =
+    ap (λ xs. 32 ∷ (a .name ++ (61 ∷ quote-mark (a .quote) ∷ value-then (a .quote) (a .value) (quote-mark (a .quote) ∷ xs)))) (attributes-join first second rest)

@@ -1,0 +1,10 @@
+use mathlib.Core.Path.{_≡_}
+use mathlib.Core.List.{[]}
+use lib.ListN.{take}
+use Rattle.markup.specs.Pens.{after}
+use Rattle.markup.specs.State.{state}
+use Rattle.markup.specs.Escapes.{value-then}
+use Rattle.markup.proofs.escapes.write_value.Given as given
+
+abbrev pub Inv-loop-byte : given.InvT-loop-byte
+Inv-loop-byte g l = state (g .S·Store) (l .pen) ≡ after (state (g .S·Store) (l .entry .pen)) (value-then (l .quote) (take (l .byte-index) (l .value)) [])

@@ -1,0 +1,4 @@
+pub mod Pens
+pub mod State
+pub mod Escapes
+pub mod Attributes

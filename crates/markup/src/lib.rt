@@ -1,0 +1,10 @@
+//! XML as it is written: a pen over a store, escapes, attributes.
+//!
+//! Writers never fail. A pen writes what fits and remembers whether a byte was lost; the call that began it settles it in
+//! the end, and cuts the store back where not all fitted. So each writer's contract is one equation: the state of the pen
+//! after it is the state before it, after the bytes that the definition in `specs/` names.
+
+pub mod attributes;
+pub mod escapes;
+pub mod pens;
+pub mod quotes;

@@ -1,0 +1,4 @@
+pub mod Meaning
+pub mod Reach
+pub mod Pages
+pub mod Rolls
