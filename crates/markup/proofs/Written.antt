@@ -19,6 +19,12 @@ text-rest [] rest = refl
 text-rest (c ∷ cs) rest =
     ap (λ xs. escape-text c ++ xs) (text-rest cs rest) ∙ sym (append-assoc (escape-text c) (text-then cs []) rest)
 
+-- a value in two parts
+pub value-join : (q : Quote) (first second : List ℕ) → value-then q (first ++ second) [] ≡ value-then q first [] ++ value-then q second []
+value-join q [] second = refl
+value-join q (c ∷ first) second =
+    ap (λ xs. escape-value q c ++ xs) (value-join q first second) ∙ sym (append-assoc (escape-value q c) (value-then q first []) (value-then q second []))
+
 -- one byte more at the end
 pub value-push : (q : Quote) (cs : List ℕ) (c : ℕ) → value-then q (cs ++ c ∷ []) [] ≡ value-then q cs [] ++ escape-value q c
 value-push q [] c = append-nil (escape-value q c)

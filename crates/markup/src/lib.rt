@@ -8,3 +8,4 @@ pub mod attributes;
 pub mod escapes;
 pub mod pens;
 pub mod quotes;
+pub mod values;

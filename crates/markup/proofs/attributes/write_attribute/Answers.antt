@@ -7,6 +7,6 @@ pub returns : need.returns
 returns g c =
     let q = c .args .quote in
     let name = c .args .name .now in
-    let value = c .args .value .now in
+    let value = g .V·Shown .shown (c .args .value .now) in
     let e = parts (state (g .S·Store) (c .args .pen .now)) (attribute-parts q name value) _ (attribute-whole q name value) in
     cc

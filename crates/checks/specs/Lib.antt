@@ -1,0 +1,3 @@
+pub mod Verdicts
+pub mod Ids
+pub mod Settings

@@ -1,0 +1,6 @@
+pub mod Tags
+pub mod Stacks
+pub mod Outcomes
+pub mod Opens
+pub mod Closes
+pub mod Promised
