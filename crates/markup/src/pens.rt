@@ -13,6 +13,7 @@ ghost use Rattle.markup.specs.State.{state};
 use stores::Store;
 
 /// A store that is written to, and whether a byte found no room since the last call was settled.
+#[derive(Drop)]
 pub struct Pen<S> {
     pub store: S,
     pub lost: bool,

@@ -9,6 +9,7 @@ use crate::elements::Stage;
 use markup::pens::Pen;
 
 /// The names of the open elements stand outermost first. Between calls nothing counts as lost.
+#[derive(Drop)]
 pub struct Plate<S> {
     pub(crate) pen: Pen<S>,
     pub(crate) names: [Element; 32],
