@@ -7,6 +7,8 @@ use Rattle.markup.specs.declared.quotes.Quote.{Quote}
 use Rattle.markup.specs.Pens.{joined}
 use Rattle.markup.specs.Escapes.{quote-mark, escape-value, escape-text, value-then, text-then}
 use Rattle.markup.specs.Attributes.{Attribute, attribute, attributes-then}
+use Rattle.markup.specs.Tags.{end-tag}
+use lib.Chars.{codes}
 
 -- what comes after stands after
 pub value-rest : (q : Quote) (cs rest : List ℕ) → value-then q cs rest ≡ value-then q cs [] ++ rest
@@ -62,3 +64,10 @@ pub attributes-join : (first second : List Attribute) (rest : List ℕ) → attr
 attributes-join [] second rest = refl
 attributes-join (a ∷ first) second rest =
     ap (λ xs. 32 ∷ (a .name ++ (61 ∷ quote-mark (a .quote) ∷ value-then (a .quote) (a .value) (quote-mark (a .quote) ∷ xs)))) (attributes-join first second rest)
+
+-- an end tag as its writer puts it
+abbrev pub end-parts : List ℕ → List (List ℕ)
+end-parts name = codes "</" ∷ name ∷ codes ">" ∷ []
+
+pub end-whole : (name : List ℕ) → joined (end-parts name) ≡ end-tag name
+end-whole name = refl

@@ -8,4 +8,5 @@ pub mod attributes;
 pub mod escapes;
 pub mod pens;
 pub mod quotes;
+pub mod tags;
 pub mod values;
