@@ -71,3 +71,18 @@ end-parts name = codes "</" ∷ name ∷ codes ">" ∷ []
 
 pub end-whole : (name : List ℕ) → joined (end-parts name) ≡ end-tag name
 end-whole name = refl
+
+-- A value in several parts, each written by itself.
+
+abbrev pub values : Quote → List (List ℕ) → List (List ℕ)
+values q [] = []
+values q (part ∷ parts) = value-then q part [] ∷ values q parts
+
+pub values-whole : (q : Quote) (parts : List (List ℕ)) → joined (values q parts) ≡ value-then q (joined parts) []
+values-whole q [] = refl
+values-whole q (part ∷ parts) =
+    ap (λ xs. value-then q part [] ++ xs) (values-whole q parts) ∙ sym (value-join q part (joined parts))
+
+-- the same, where the parts make up a text
+pub values-text : (q : Quote) (parts : List (List ℕ)) (text : List ℕ) → joined parts ≡ text → joined (values q parts) ≡ value-then q text []
+values-text q parts text e = values-whole q parts ∙ ap (λ xs. value-then q xs []) e

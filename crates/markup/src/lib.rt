@@ -5,8 +5,14 @@
 //! after it is the state before it, after the bytes that the definition in `specs/` names.
 
 pub mod attributes;
+pub mod colors;
+pub mod elidables;
 pub mod escapes;
+pub mod lists;
+pub mod matrices;
+pub mod numbers;
 pub mod pens;
 pub mod quotes;
+pub mod references;
 pub mod tags;
 pub mod values;

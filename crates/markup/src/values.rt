@@ -3,7 +3,7 @@
 //! The ghost member `shown` is the bytes that a value means; showing it writes them, escaped for the quote in use.
 
 ghost use mathlib.Core.Path.{_≡_};
-ghost use mathlib.Core.List.{List, [], _++_};
+ghost use mathlib.Core.List.{List, []};
 ghost use Prim.Native.Nat.{ℕ};
 ghost use denote.Ref.{now as at};
 ghost use Rattle.markup.specs.Pens.{after};
@@ -31,21 +31,5 @@ pub impl<'a> Shown for Fixed<'a> as FixedShown {
 
     fn show<S: Store>(&self, pen: &mut Pen<S>, quote: Quote) {
         write_value(pen, quote, self.0);
-    }
-}
-
-/// An id with the prefix of its call before it.
-#[derive(Clone, Copy)]
-pub struct PrefixedId<'p, 'i> {
-    pub prefix: &'p [u8],
-    pub id: &'i [u8],
-}
-
-pub impl<'p, 'i> Shown for PrefixedId<'p, 'i> as PrefixedIdShown {
-    ghost shown = { λ v. at (v .prefix) ++ at (v .id) };
-
-    fn show<S: Store>(&self, pen: &mut Pen<S>, quote: Quote) {
-        write_value(pen, quote, self.prefix);
-        write_value(pen, quote, self.id);
     }
 }

@@ -15,8 +15,8 @@ use markup::pens::Pen;
 use markup::quotes::Quote;
 use markup::values::Fixed;
 use markup::values::FixedShown;
-use markup::values::PrefixedId;
-use markup::values::PrefixedIdShown;
+use markup::references::PrefixedId;
+use markup::references::PrefixedIdShown;
 use stores::Store;
 
 fn quote(options: &WriteOptions) -> Quote

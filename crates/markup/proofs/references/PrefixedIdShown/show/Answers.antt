@@ -3,7 +3,7 @@ use Rattle.markup.specs.State.{state}
 use Rattle.markup.specs.Escapes.{value-then}
 use Rattle.markup.proofs.Chains.{after-after}
 use Rattle.markup.proofs.Written.{value-join}
-use Rattle.markup.proofs.values.PrefixedIdShown.show.Needs as need
+use Rattle.markup.proofs.references.PrefixedIdShown.show.Needs as need
 
 pub returns : need.returns
 returns g c =
