@@ -1,13 +1,11 @@
-//! Escapes: how the bytes of a value and of a text are written.
-//!
-//! In values `&`, `<` and the quote in use become entities, and tab, line feed and carriage return character references;
-//! in text `&`, `<`, `>` and carriage return. All other bytes, those of characters above U+007F too, stand as they are.
+//! Escapes of values: `&`, `<` and the quote in use become entities, and tab, line feed and carriage return character
+//! references. All other bytes, those of characters above U+007F too, stand as they are.
 
 ghost use mathlib.Core.Path.{_≡_};
 ghost use mathlib.Core.List.{[]};
 ghost use Rattle.markup.specs.Pens.{after};
 ghost use Rattle.markup.specs.State.{state};
-ghost use Rattle.markup.specs.Escapes.{escape-value, escape-text, value-then, text-then};
+ghost use Rattle.markup.specs.Escapes.{escape-value, value-then};
 use crate::pens::Pen;
 use crate::quotes::Quote;
 use stores::Store;
@@ -26,32 +24,11 @@ fn write_value_byte<S: Store>(pen: &mut Pen<S>, quote: Quote, byte: u8)
     }
 }
 
-fn write_text_byte<S: Store>(pen: &mut Pen<S>, byte: u8)
-    ensures { λ _. ⌜ state S·Store (now (pen .exit)) ≡ after (state S·Store (now (pen .entry))) (escape-text byte) ⌝ }
-{
-    match byte {
-        b'&' => pen.bytes(b"&amp;"),
-        b'<' => pen.bytes(b"&lt;"),
-        b'>' => pen.bytes(b"&gt;"),
-        b'\r' => pen.bytes(b"&#13;"),
-        b => pen.byte(b),
-    }
-}
-
 /// The bytes of a value that stands in this quote.
 pub fn write_value<S: Store>(pen: &mut Pen<S>, quote: Quote, value: &[u8])
     ensures { λ _. ⌜ state S·Store (now (pen .exit)) ≡ after (state S·Store (now (pen .entry))) (value-then quote (now (value .entry)) []) ⌝ }
 {
     for byte in value {
         write_value_byte(pen, quote, *byte);
-    }
-}
-
-/// The bytes of a text between tags.
-pub fn write_text<S: Store>(pen: &mut Pen<S>, text: &[u8])
-    ensures { λ _. ⌜ state S·Store (now (pen .exit)) ≡ after (state S·Store (now (pen .entry))) (text-then (now (text .entry)) []) ⌝ }
-{
-    for byte in text {
-        write_text_byte(pen, *byte);
     }
 }

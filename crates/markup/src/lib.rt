@@ -15,4 +15,5 @@ pub mod pens;
 pub mod quotes;
 pub mod references;
 pub mod tags;
+pub mod texts;
 pub mod values;

@@ -6,7 +6,7 @@ use Rattle.markup.specs.State.{state}
 use Rattle.markup.specs.Escapes.{escape-text, text-then}
 use Rattle.markup.proofs.Chains.{after-after}
 use Rattle.markup.proofs.Written.{text-push}
-use Rattle.markup.proofs.escapes.write_text.Needs as need
+use Rattle.markup.proofs.texts.write_text.Needs as need
 
 pub loop-byte-again : need.loop-byte-again
 loop-byte-again g c =
