@@ -76,6 +76,13 @@ impl<S: Store> Plate<S> {
         }
     }
 
+    /// How many bytes are held.
+    pub fn held(&self) -> usize
+        ensures { λ r. ⌜ r ≡ length (view S·Store (now (self .entry)) .held) ⌝ }
+    {
+        self.pen.mark()
+    }
+
     /// How many elements are open.
     pub fn depth(&self) -> usize
         ensures { λ r. ⌜ r ≡ length (view S·Store (now (self .entry)) .names) ⌝ }
