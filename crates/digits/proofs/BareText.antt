@@ -1,30 +1,29 @@
 -- The theorem on `bare`: its text is the shortest, nearest, larger one, reads back, and no other text does all that.
 use mathlib.Core.Path.{_≡_, refl, sym, ap, _∙_, subst}
 use mathlib.Core.Logic.{_⊎_, inl, inr}
-use mathlib.Core.Bool.{Bool, true, false, not, cond, _&&_, _||_, false≢true, true≢false}
-use mathlib.Core.List.{List, [], _∷_}
-use Prim.Native.Nat.{ℕ, zero, suc, _+_, _-_, _*_, _/_, _%_, _^_, _≤_, _<_}
-use native.Mathlib.Nat.{mul-one, one-mul, zero-mul, mul-zero, mul-comm, eq-zero-or-pos, zero-div, le-of-eq, le-trans, le-refl, le-antisymm, mul-pos, lt-irrefl}
+use mathlib.Core.Bool.{Bool, true, false, cond, _||_, false≢true}
+use mathlib.Core.List.{List}
+use Prim.Native.Nat.{ℕ, zero, suc, _+_, _-_, _*_, _/_, _%_, _^_, _<_}
+use native.Mathlib.Nat.{mul-one, zero-mul, zero-div, le-of-eq, le-trans, le-antisymm, mul-pos}
 use native.Mathlib.Omega.{arith}
-use lib.Dec.{T, eqb, leb, lit<, eqb→eq}
-use lib.IntN.{ℤ, pos}
+use lib.Dec.{T, eqb, leb, lit<}
 use lib.Ieee.{Float, nan, inf, fin, binary32, up, down, size, round, units, odd, fits, toBits, ofBits, eq, le}
-use lib.Ieee.Fits.{round-is, up-pos}
-use lib.Ieee.Exact.{HasValue, odd-sign}
+use lib.Ieee.Fits.{round-is}
+use lib.Ieee.Exact.{HasValue}
 use lib.Ieee.Order.{drop, kept}
 use Rattle.std.proofs.shelf.Tests.{cond-true, cond-false, eq-eqb, ne-eqb, and-parts, or-cases, eqb-true}
 use Rattle.std.specs.Floats.{negative, withSign}
 use Rattle.digits.specs.Decimals as text
-use Rattle.digits.specs.Decimals.{nearest-float, minus, places, reads, Plain, spelling}
+use Rattle.digits.specs.Decimals.{minus, places, spelling}
 use Rattle.digits.specs.Magnitudes.{grains, apart, nought, least, most, bare-domain}
-use Rattle.digits.specs.Bare.{Significant, away, Shortest, Shows, bare, best-at, coarsest, tens-above, tens-below}
+use Rattle.digits.specs.Bare.{Significant, away, Shortest, Shows, bare, shortest-text, best-at, coarsest, tens-above}
 use Rattle.digits.specs.Scaled.{Parts}
 use Rattle.digits.specs.Theorems.{BareStands}
 use Rattle.digits.proofs.ReadsBack.{reads-of-grains, rounded-grains}
 use Rattle.digits.proofs.Searched.{Found, definition-found, same-units, same-place}
 use Rattle.digits.proofs.Shortness.{found-shortest, found-bound, found-lowest}
-use Rattle.digits.proofs.Texts.{Lowest, Says, spelling-plain, spelling-says, spelling-reads, plain-spelling, plain-lowest, lowest-places, lowest-units, ten-pos}
-use Rattle.digits.proofs.Values.{grains-of, sign-of, valued, finite-in, at-least, parts-of}
+use Rattle.digits.proofs.Texts.{Lowest, spelling-plain, spelling-says, spelling-reads, plain-spelling, plain-lowest, lowest-places, lowest-units, ten-pos}
+use Rattle.digits.proofs.Values.{grains-of, sign-of, valued, finite-in, parts-of}
 
 -- ---- the sign is that of the text
 odd-negative : (d : ℕ) (s : Bool) (q k l : ℕ) → negative (odd d s q k l) ≡ s
@@ -118,11 +117,11 @@ in-domain x h =
 
 bare-zero : (x : Float) → grains x ≡ 0 → bare x ≡ spelling (negative x) 0 0
 unfolding bare
-bare-zero x e = cond-true (eqb (grains x) 0) (spelling (negative x) 0 0) (spelling (negative x) (best-at x (coarsest x) * tens-above (coarsest x)) (coarsest x - 12)) (eq-eqb (grains x) 0 e)
+bare-zero x e = cond-true (eqb (grains x) 0) (spelling (negative x) 0 0) (shortest-text x) (eq-eqb (grains x) 0 e)
 
 bare-some : (x : Float) → (grains x ≡ 0 → ⊥) → bare x ≡ spelling (negative x) (best-at x (coarsest x) * tens-above (coarsest x)) (coarsest x - 12)
 unfolding bare
-bare-some x e = cond-false (eqb (grains x) 0) (spelling (negative x) 0 0) (spelling (negative x) (best-at x (coarsest x) * tens-above (coarsest x)) (coarsest x - 12)) (ne-eqb (grains x) 0 e)
+bare-some x e = cond-false (eqb (grains x) 0) (spelling (negative x) 0 0) (shortest-text x) (ne-eqb (grains x) 0 e)
 
 pub parts-some : {x : Float} {s : Bool} {M j : ℕ} → Parts x s M j → grains x ≡ 0 → ⊥
 parts-some {x} {s} {M} {j} p z =

@@ -1,14 +1,14 @@
 -- Which fractions n / c round to the float M * 2 ^ j of 24 digits: those at most half a gap away, a tie where M is even,
 -- and below a power of two only a quarter of the gap, since the floats there are twice as close.
 use mathlib.Core.Path.{_≡_, refl, sym, ap, _∙_, subst}
-use mathlib.Core.Logic.{_⊎_, inl, inr}
+use mathlib.Core.Logic.{inl, inr}
 use mathlib.Core.Bool.{Bool, true, false, not}
 use Prim.Native.Nat.{ℕ, zero, suc, _+_, _-_, _*_, _/_, _%_, _^_, _≤_, _<_, compare}
-use native.Mathlib.Nat.{le-trans, le-of-eq, lt-of-lt-of-le, lt-of-le-of-lt, lt-of-not-le, not-le-of-lt, mul-comm, mul-assoc, mul-left-comm, mul-right-comm, add-mul, suc-mul, one-mul, mul-one, zero-mul, add-zero, mul-le-mul-right, mul-le-mul-left, eq-of-mul-eq-mul-right, div-add-mod', mod-lt, le-div-iff-mul-le, div-lt-iff-lt-mul, div-div-eq-div-mul, mul-pos, pow-suc}
+use native.Mathlib.Nat.{le-trans, le-of-eq, mul-comm, mul-assoc, mul-one, mul-le-mul-right, mul-le-mul-left, eq-of-mul-eq-mul-right, le-div-iff-mul-le, div-lt-iff-lt-mul, div-div-eq-div-mul, mul-pos, pow-suc}
 use native.Mathlib.Omega.{arith}
-use lib.Dec.{T, leb, ltb, leb→le, nleb→lt, ltb→lt, nltb→le, lit<, lit≤}
+use lib.Dec.{T, leb, leb→le, nleb→lt, lit<}
 use lib.Pow.{pow-add, pow-pos, pow-mono}
-use lib.Ieee.{nearest, size}
+use lib.Ieee.{size}
 use lib.Ieee.Nearest.{closest, nearest-ge}
 use lib.Ieee.Digits.{size-lt, size-le, size-reaches}
 use lib.Ieee.Fits.{nearest-le, kept-lt}
@@ -23,7 +23,7 @@ size-past n j h =
     omega (arith, none)
 
 -- the number kept has at most p digits, or is 2 ^ p
-kept-at-most : (p n den : ℕ) → kept p n den ≤ 2 ^ p
+pub kept-at-most : (p n den : ℕ) → kept p n den ≤ 2 ^ p
 kept-at-most p n den =
     let u = den * 2 ^ drop p n den in
     let cut : n / u < 2 ^ p = subst (λ (q : ℕ). q < 2 ^ p) (div-div-eq-div-mul n den (2 ^ drop p n den)) (kept-lt p (n / den)) in
@@ -39,7 +39,7 @@ drops-ge p n den P D K =
     let a : 2 ^ (p - 1 + k) * den ≤ n = le-div-iff-mul-le D .0 (size-reaches (n / den) (p - 1 + k) (digits-left (size (n / den)) p P K)) in
     le-trans (le-of-eq (ap (λ (x : ℕ). 2 ^ (p - 1) * x) (mul-comm den (2 ^ k)) ∙ sym (mul-assoc (2 ^ (p - 1)) (2 ^ k) den) ∙ ap (λ (x : ℕ). x * den) (sym (pow-add 2 (p - 1) k)))) a
 
-kept-at-least : (p n den : ℕ) → 0 < p → 0 < den → 0 < drop p n den → 2 ^ (p - 1) ≤ kept p n den
+pub kept-at-least : (p n den : ℕ) → 0 < p → 0 < den → 0 < drop p n den → 2 ^ (p - 1) ≤ kept p n den
 kept-at-least p n den P D K =
     let k = drop p n den in
     let u = den * 2 ^ k in

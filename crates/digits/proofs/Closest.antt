@@ -1,16 +1,12 @@
 -- `Near a b q Q`: q is a / b to the nearest whole number, a tie to the even one. The library's `closest` is just that.
 use mathlib.Core.Path.{_≡_, refl, sym, ap, _∙_, subst, subst⁻¹}
 use mathlib.Core.Logic.{_⊎_, inl, inr}
-use mathlib.Core.Bool.{not}
-use Prim.Native.Nat.{ℕ, zero, suc, _+_, _-_, _*_, _/_, _%_, _^_, _≤_, _<_, zero-le, suc-le-suc, compare, compare·zero-zero, compare·zero-suc, compare·suc-zero, compare·suc-suc, Ordering, Ordering·lt, Ordering·eq, Ordering·gt}
-use native.Mathlib.Nat.{le-trans, le-of-eq, lt-of-lt-of-le, lt-of-not-le, not-le-of-lt, mul-comm, mul-assoc, mul-right-comm, add-mul, suc-mul, one-mul, zero-mul, add-zero, mul-le-mul-right, eq-of-mul-eq-mul-right, div-add-mod', mod-lt, le-div-iff-mul-le, div-lt-iff-lt-mul, div-div-eq-div-mul, mul-pos}
+use Prim.Native.Nat.{ℕ, zero, suc, _+_, _*_, _/_, _%_, _≤_, _<_, zero-le, suc-le-suc, compare, compare·zero-zero, compare·zero-suc, compare·suc-zero, compare·suc-suc, Ordering, Ordering·lt, Ordering·eq, Ordering·gt}
+use native.Mathlib.Nat.{add-mul, suc-mul, one-mul, add-zero, mul-le-mul-right, eq-of-mul-eq-mul-right, div-add-mod', mod-lt}
 use native.Mathlib.Omega.{arith}
-use lib.Pow.{pow-add, pow-pos, pow-mono}
-use lib.Ieee.{nearest, size}
-use lib.Ieee.Nearest.{closest, nearest-ge}
-use lib.Ieee.Digits.{size-lt, size-le, size-reaches}
-use lib.Ieee.Fits.{nearest-le, kept-lt}
-use lib.Ieee.Order.{drop, kept}
+use lib.Pow.{pow-pos}
+use lib.Ieee.{nearest}
+use lib.Ieee.Nearest.{closest}
 
 -- what `compare` answers, in the words of the order
 abbrev Ordered : ℕ → ℕ → Ordering → Type 0

@@ -1,11 +1,11 @@
 -- No decimal that reads back has fewer digits than the one that the search of places finds first.
-use mathlib.Core.Path.{_≡_, refl, sym, ap, _∙_, subst}
-use mathlib.Core.Logic.{_⊎_, inl, inr}
-use mathlib.Core.Bool.{Bool, true, false, not, cond, _&&_}
+use mathlib.Core.Path.{_≡_, refl, sym, ap, _∙_}
+use mathlib.Core.Logic.{inl, inr}
+use mathlib.Core.Bool.{Bool}
 use Prim.Native.Nat.{ℕ, zero, suc, _+_, _-_, _*_, _/_, _%_, _^_, _≤_, _<_}
-use native.Mathlib.Nat.{mul-comm, mul-assoc, mul-left-comm, mul-right-comm, add-mul, mul-le-mul, mul-le-mul-right, le-trans, le-of-eq, le-of-lt, lt-of-lt-of-le, mul-pos, pow-le-pow-right, pow-suc, zero-mul, mul-one, div-lt-iff-lt-mul}
+use native.Mathlib.Nat.{mul-assoc, mul-le-mul, mul-le-mul-right, le-trans, le-of-eq, le-of-lt, pow-suc, zero-mul, mul-one, div-lt-iff-lt-mul}
 use native.Mathlib.Omega.{arith}
-use lib.Dec.{leb, lit<, lit≤}
+use lib.Dec.{leb}
 use lib.Pow.{pow-pos, pow-add, pow-mono}
 use lib.Ieee.{Float, binary32, round}
 use lib.Ieee.Scale.{round-same}

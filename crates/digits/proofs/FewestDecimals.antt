@@ -1,9 +1,8 @@
 -- A bare text has no more decimals than any decimal that reads as the float has.
-use mathlib.Core.Path.{_≡_, refl, sym, ap, _∙_, subst}
-use mathlib.Core.Logic.{_⊎_, inl, inr}
+use mathlib.Core.Path.{_≡_, sym, ap, _∙_}
+use mathlib.Core.Logic.{inl, inr}
 use mathlib.Core.Bool.{Bool, true}
-use mathlib.Core.List.{List}
-use Prim.Native.Nat.{ℕ, zero, suc, _+_, _-_, _*_, _/_, _%_, _^_, _≤_, _<_}
+use Prim.Native.Nat.{ℕ, _+_, _-_, _*_, _/_, _%_, _^_, _≤_, _<_}
 use native.Mathlib.Nat.{mul-one}
 use native.Mathlib.Omega.{arith}
 use lib.Dec.{T, leb, lit<}
@@ -11,14 +10,14 @@ use lib.Ieee.{Float, binary32, round, fits, toBits}
 use Rattle.std.proofs.shelf.Tests.{cases-lt}
 use Rattle.std.specs.Floats.{negative}
 use Rattle.digits.specs.Decimals.{nearest-float, places, spelling}
-use Rattle.digits.specs.Magnitudes.{grains, bare-domain}
+use Rattle.digits.specs.Magnitudes.{bare-domain}
 use Rattle.digits.specs.Bare.{bare, best-at, coarsest, tens-above, tens-below}
 use Rattle.digits.specs.Scaled.{Parts}
 use Rattle.digits.proofs.BareText.{in-domain, bare-nought, bare-found}
 use Rattle.digits.proofs.PlaceUnits.{none-before}
 use Rattle.digits.proofs.Searched.{Found, definition-found}
 use Rattle.digits.proofs.Shortness.{found-bound, found-lowest}
-use Rattle.digits.proofs.Texts.{Lowest, Says, spelling-says}
+use Rattle.digits.proofs.Texts.{spelling-says}
 use Rattle.digits.proofs.Values.{parts-of, sign-of}
 
 -- a decimal with p places is a number of units of the place 12 + p

@@ -1,21 +1,20 @@
 -- The whole part and the fraction of a float: both are floats, so taking them loses nothing.
 use mathlib.Core.Path.{_≡_, refl, sym, ap, _∙_, subst}
 use mathlib.Core.Logic.{_⊎_, inl, inr}
-use mathlib.Core.Bool.{Bool, true, false, not, cond, _&&_, _||_, false≢true, true≢false}
+use mathlib.Core.Bool.{Bool, true, false, not, cond, _&&_, false≢true, true≢false}
 use Prim.Native.Nat.{ℕ, zero, suc, _+_, _-_, _*_, _/_, _%_, _^_, _≤_, _<_}
-use native.Mathlib.Nat.{mul-comm, mul-assoc, mul-right-comm, mul-one, one-mul, zero-mul, mul-div-cancel, mul-mod-left, mod-le, mod-lt, div-mul-le-self, div-add-mod', mul-le-mul, mul-le-mul-left, mul-le-mul-right, le-of-mul-le-mul-right, eq-of-mul-eq-mul-right, mul-sub, mul-pos, le-trans, le-of-eq, le-of-lt, eq-zero-or-pos, zero-mod}
+use native.Mathlib.Nat.{mul-comm, mul-assoc, mul-right-comm, mul-one, zero-mul, mul-div-cancel, mul-mod-left, mod-le, div-mul-le-self, div-add-mod', mul-le-mul-left, mul-le-mul-right, le-of-mul-le-mul-right, eq-of-mul-eq-mul-right, mul-pos, le-trans, le-of-eq, le-of-lt, eq-zero-or-pos}
 use native.Mathlib.Omega.{arith}
 use lib.Dec.{T, leb, ltb, eqb, lit<}
-use lib.IntN.{ℤ}
 use lib.Pow.{pow-pos, pow-add, pow-mono}
-use lib.Ieee.{Float, nan, inf, fin, binary32, up, down, fits, toBits, ofBits, round, sum, add, sub, neg, le, eq}
+use lib.Ieee.{Float, nan, inf, fin, binary32, up, down, fits, toBits, ofBits, round, sum, add, sub, neg, le}
 use lib.Ieee.Exact.{HasValue, round-exact}
 use lib.Ieee.Fits.{down-pos}
 use lib.Ieee.Nearest.{div-same}
 use lib.Ieee.Scale.{finite}
-use Rattle.std.proofs.shelf.Tests.{cases-lt, lt-ltb, le-ltb, ltb-true, and-parts, and-from, eqb-true}
+use Rattle.std.proofs.shelf.Tests.{cases-lt, lt-ltb, le-ltb, and-parts, and-from, eqb-true}
 use Rattle.std.proofs.shelf.Ways.{tells}
-use Rattle.std.specs.Floats.{negative, withSign, wholeBy, trunc}
+use Rattle.std.specs.Floats.{wholeBy, trunc}
 use Rattle.digits.specs.Magnitudes.{grains, nought}
 use Rattle.digits.specs.Rounded.{fraction, is-whole}
 use Rattle.digits.proofs.Shortness.{sub-mul}

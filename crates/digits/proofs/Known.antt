@@ -1,5 +1,5 @@
 -- The table of known texts: each definition computes to its text.
-use mathlib.Core.Path.{_≡_, refl}
+use mathlib.Core.Path.{refl}
 use lib.Ieee.{round, eq, ofBits, toBits, mul, div, sub, ofInt, le}
 use Rattle.std.specs.Written.{digits}
 use Rattle.std.specs.Floats.{negative, wholeBy, withSign}

@@ -18,3 +18,5 @@ pub mod ErrorBound
 pub mod WholeParts
 pub mod Steps
 pub mod RoundedText
+pub mod Domains
+pub mod Reading

@@ -1,16 +1,15 @@
 -- At its place, the units chosen are the nearest that read back, and the larger of two as near.
-use mathlib.Core.Path.{_≡_, refl, sym, ap, _∙_, subst}
+use mathlib.Core.Path.{_≡_, refl, ap, _∙_}
 use mathlib.Core.Logic.{_⊎_, inl, inr}
-use mathlib.Core.Bool.{Bool, true, false, not, cond, _&&_, true≢false, false≢true}
-use Prim.Native.Nat.{ℕ, zero, suc, _+_, _-_, _*_, _/_, _%_, _^_, _≤_, _<_}
-use native.Mathlib.Nat.{mul-le-mul-right, mod-lt, suc-mul, eq-of-mul-eq-mul-right, mul-assoc, mul-comm, mul-left-comm, mul-right-comm, add-mul, one-mul, le-of-lt, pow-suc, lt-of-le-of-lt, div-lt-iff-lt-mul, mul-lt-mul-of-pos-right}
+use mathlib.Core.Bool.{Bool, true, false, false≢true}
+use Prim.Native.Nat.{ℕ, suc, _+_, _-_, _*_, _/_, _%_, _≤_, _<_}
+use native.Mathlib.Nat.{mul-le-mul-right, mod-lt, suc-mul, add-mul, one-mul}
 use native.Mathlib.Omega.{arith}
 use lib.Dec.{leb}
 use Rattle.std.proofs.shelf.Tests.{cases-lt, leb-true, leb-false}
 use Rattle.digits.specs.Magnitudes.{apart}
-use Rattle.digits.specs.Scaled.{within, units-at, chosen, gap, step}
-use Rattle.digits.proofs.Between.{Inside}
-use Rattle.digits.proofs.PlaceUnits.{tests-inside, inside-tests, floor-multiple, under, over, found, fine, chosen-one, gap-pos, step-pos}
+use Rattle.digits.specs.Scaled.{within, units-at, chosen}
+use Rattle.digits.proofs.PlaceUnits.{tests-inside, inside-tests, floor-multiple, under, over}
 
 chosen-because : (lo hi half : Bool) (n r : ℕ) → r ≡ chosen lo hi half n → 0 < r
     → ((r ≡ n) × (lo ≡ true) × (hi ≡ true → half ≡ false)) ⊎ ((r ≡ n + 1) × (hi ≡ true) × (lo ≡ true → half ≡ true))

@@ -4,18 +4,18 @@ use mathlib.Core.Logic.{_⊎_, inl, inr}
 use mathlib.Core.Bool.{Bool, true, false, not, cond, _&&_, _||_, Bool·beq}
 use mathlib.Core.List.{List}
 use Prim.Native.Nat.{ℕ, zero, suc, _+_, _-_, _*_, _/_, _%_, _^_, _≤_, _<_}
-use native.Mathlib.Nat.{eq-of-mul-eq-mul-right, mul-right-comm, mul-comm, mul-assoc, mul-one, one-mul, zero-mul, mul-le-mul, mul-le-mul-left, mul-le-mul-right, eq-zero-or-pos, pow-le-pow-right, le-trans, le-of-eq, div-add-mod', div-one, mod-eq-of-lt, mul-pos}
+use native.Mathlib.Nat.{eq-of-mul-eq-mul-right, mul-right-comm, mul-comm, mul-assoc, mul-one, zero-mul, mul-le-mul, mul-le-mul-left, mul-le-mul-right, eq-zero-or-pos, pow-le-pow-right, le-trans, le-of-eq, div-add-mod', div-one}
 use native.Mathlib.Omega.{arith}
-use lib.Dec.{T, eqb, leb, lit<, lit≤}
+use lib.Dec.{T, eqb, lit<, lit≤}
 use lib.Pow.{pow-add, pow-pos}
-use lib.Ieee.{Float, nan, inf, fin, binary32, up, down, size, round, mul, div, le, eq, fits, ofBits}
+use lib.Ieee.{Float, nan, inf, fin, binary32, up, down, size, round, mul, le, eq, fits, ofBits}
 use lib.Ieee.Exact.{HasValue}
-use lib.Ieee.Fits.{div-fits, down-pos}
+use lib.Ieee.Fits.{div-fits}
 use lib.Ieee.Order.{drop, kept, round-mono}
-use lib.Ieee.Scale.{finite, round-same}
+use lib.Ieee.Scale.{round-same}
 use Rattle.std.proofs.shelf.Tests.{cases-lt, cases-bool, cond-true, cond-false, eq-eqb, ne-eqb, and-from, or-left, or-right}
 use Rattle.std.specs.Floats.{negative, withSign, roundAway}
-use Rattle.digits.specs.Decimals.{nearest-float, spelling}
+use Rattle.digits.specs.Decimals.{nearest-float}
 use Rattle.digits.specs.Magnitudes.{grains, apart, nought, least, most, bare-domain, rounded-domain}
 use Rattle.digits.specs.Bare.{bare}
 use Rattle.digits.specs.Rounded.{power-of-ten, rounded-value, is-whole, whole-part, whole-text, rounded, distance, Close}
@@ -27,7 +27,7 @@ use Rattle.digits.proofs.FewestDecimals.{fewest-decimals}
 use Rattle.digits.proofs.Fractions.{Digits, float-digits, rest-small, whole-value, whole-cases, whole-if, is-true, exact}
 use Rattle.digits.proofs.ReadsBack.{rounded-grains, one-size}
 use Rattle.digits.proofs.Shortness.{apart-mul}
-use Rattle.digits.proofs.Steps.{Stepped, stepped, Fraction, product, Whole, to-whole, quotient, power-value}
+use Rattle.digits.proofs.Steps.{Stepped, stepped, product, to-whole, quotient, power-value}
 use Rattle.digits.proofs.Texts.{Lowest, spelling-plain, spelling-reads, spelling-says, ten-pos}
 use Rattle.digits.proofs.Values.{valued, grains-of, sign-of, unsigned-value, grains-le, le-grains, least-value, most-value, finite-in, at-most}
 
@@ -149,7 +149,7 @@ all-steps x s a p v h l =
     (finish s a t g R (f3 .num) (f3 .den) T u (f3 .some) o1 (w .not-above) (w .not-below) (whole-kept s R (s2 .value) (omega arith)) s2 o2 (f3 .ratio) s3)
 
 -- ---- the rounded value can be shown bare
-zero-equals : (x : Float) (s : Bool) → HasValue x s 0 (2 ^ 149) → eq x nought ≡ true
+pub zero-equals : (x : Float) (s : Bool) → HasValue x s 0 (2 ^ 149) → eq x nought ≡ true
 unfolding eq ofBits
 zero-equals nan s v = absurd v
 zero-equals (inf t) s v = absurd v

@@ -1,9 +1,9 @@
 -- The search of places in the definition of `bare` and the one in the code's whole numbers find the same units at every place.
 use mathlib.Core.Path.{_≡_, refl, sym, ap, _∙_, subst}
-use mathlib.Core.Logic.{_⊎_, inl, inr}
-use mathlib.Core.Bool.{Bool, true, false, not, cond, _&&_}
+use mathlib.Core.Logic.{inl, inr}
+use mathlib.Core.Bool.{Bool, true}
 use Prim.Native.Nat.{ℕ, zero, suc, _+_, _-_, _*_, _/_, _%_, _^_, _≤_, _<_}
-use native.Mathlib.Nat.{mul-comm, mul-assoc, mul-left-comm, one-mul, add-mul, mul-div-mul-right, div-add-mod', mod-lt, mul-lt-mul-of-pos-right, mul-le-mul-right, le-of-mul-le-mul-right}
+use native.Mathlib.Nat.{mul-comm, mul-assoc, one-mul, add-mul, mul-div-mul-right, div-add-mod', mod-lt, mul-lt-mul-of-pos-right, mul-le-mul-right, le-of-mul-le-mul-right}
 use native.Mathlib.Omega.{arith}
 use borrow.Author.Count.{below-more}
 use lib.Arith.{digits-mod}

@@ -1,11 +1,11 @@
 -- What the search finds is the shortest decimal that reads back, among all decimals the nearest of those, and the larger of two as near.
 use mathlib.Core.Path.{_≡_, refl, sym, ap, _∙_, subst}
-use mathlib.Core.Logic.{_⊎_, inl, inr}
-use mathlib.Core.Bool.{Bool, true, false, not, cond, _&&_}
+use mathlib.Core.Logic.{inl, inr}
+use mathlib.Core.Bool.{Bool, true}
 use Prim.Native.Nat.{ℕ, zero, suc, _+_, _-_, _*_, _/_, _%_, _^_, _≤_, _<_}
-use native.Mathlib.Nat.{mul-comm, mul-assoc, mul-left-comm, mul-right-comm, one-mul, mul-one, zero-mul, mul-sub, add-mul, mul-le-mul, mul-le-mul-left, mul-le-mul-right, le-of-mul-le-mul-right, eq-of-mul-eq-mul-right, le-trans, le-of-eq, le-of-lt, pow-suc, mul-pos, div-add-mod'}
+use native.Mathlib.Nat.{mul-comm, mul-assoc, mul-right-comm, one-mul, mul-one, mul-sub, add-mul, mul-le-mul, mul-le-mul-left, mul-le-mul-right, eq-of-mul-eq-mul-right, le-trans, le-of-eq, pow-suc, div-add-mod'}
 use native.Mathlib.Omega.{arith}
-use lib.Dec.{T, lit<, lit≤}
+use lib.Dec.{lit<, lit≤}
 use lib.Pow.{pow-pos, pow-add, pow-mono}
 use lib.Ieee.{Float, binary32, round}
 use lib.Ieee.Scale.{round-same}
@@ -14,12 +14,12 @@ use Rattle.std.specs.Floats.{negative}
 use Rattle.digits.specs.Decimals.{nearest-float}
 use Rattle.digits.specs.Magnitudes.{grains, apart}
 use Rattle.digits.specs.Bare.{Significant, away, Shortest, tens-above, tens-below}
-use Rattle.digits.specs.Scaled.{Parts, within, gap, step, units-at}
+use Rattle.digits.specs.Scaled.{Parts, within, gap, step}
 use Rattle.digits.proofs.Between.{Inside}
 use Rattle.digits.proofs.Fewest.{fewest, finer, some, first, between-reads}
 use Rattle.digits.proofs.NearestUnits.{nearest}
-use Rattle.digits.proofs.PlaceUnits.{common-power, units-scaled, tests-inside, reads-within, none-before, result-some, result-reads, gap-pos, step-pos, significand-some}
-use Rattle.digits.proofs.Searched.{Found, step-scale, grains-scale}
+use Rattle.digits.proofs.PlaceUnits.{common-power, units-scaled, tests-inside, reads-within, none-before, result-some, result-reads, gap-pos, step-pos}
+use Rattle.digits.proofs.Searched.{Found, grains-scale}
 use Rattle.digits.proofs.SmallUnits.{small-units}
 use Rattle.digits.proofs.Texts.{Lowest, ten-pos}
 use Rattle.digits.proofs.Values.{sign-of}

@@ -1,9 +1,9 @@
 -- The units found have at most nine digits: one place coarser, the step would be finer than a quarter of the gap, and some units would read back there.
-use mathlib.Core.Path.{_≡_, refl, sym, ap, _∙_, subst}
-use mathlib.Core.Logic.{_⊎_, inl, inr}
-use mathlib.Core.Bool.{Bool, true, false}
+use mathlib.Core.Path.{_≡_, sym, ap, _∙_}
+use mathlib.Core.Logic.{inl, inr}
+use mathlib.Core.Bool.{Bool}
 use Prim.Native.Nat.{ℕ, zero, suc, _+_, _-_, _*_, _/_, _%_, _^_, _≤_, _<_}
-use native.Mathlib.Nat.{mul-le-mul-right, mul-le-mul, mul-assoc, mul-comm, mul-left-comm, le-of-lt, le-of-eq, le-trans, lt-of-le-of-lt, lt-of-lt-of-le, div-lt-iff-lt-mul, mul-lt-mul-of-pos-right, le-of-mul-le-mul-right}
+use native.Mathlib.Nat.{mul-le-mul-right, mul-le-mul, mul-assoc, mul-comm, mul-left-comm, le-of-lt, div-lt-iff-lt-mul, le-of-mul-le-mul-right}
 use native.Mathlib.Omega.{arith}
 use lib.Dec.{leb}
 use lib.Pow.{pow-add}

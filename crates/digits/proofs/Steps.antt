@@ -1,22 +1,18 @@
 -- The three steps of rounding, each with its error: the product, the whole number, the quotient.
 use mathlib.Core.Path.{_≡_, refl, sym, ap, _∙_, subst}
-use mathlib.Core.Bool.{Bool, true, false, not, cond}
-use Prim.Native.Nat.{ℕ, zero, suc, _+_, _-_, _*_, _/_, _%_, _^_, _≤_, _<_}
-use native.Mathlib.Nat.{mul-comm, mul-assoc, mul-left-comm, mul-right-comm, mul-one, one-mul, zero-mul, add-mul, mul-le-mul-left, mul-le-mul-right, le-of-mul-le-mul-right, mul-pos, div-mul-le-self, lt-div-mul-add, eq-zero-or-pos}
+use mathlib.Core.Bool.{Bool, true, false, cond}
+use Prim.Native.Nat.{ℕ, zero, suc, _+_, _*_, _^_, _≤_, _<_}
+use native.Mathlib.Nat.{mul-comm, mul-assoc, mul-left-comm, mul-right-comm, mul-one, zero-mul, add-mul, mul-le-mul-left, mul-le-mul-right, le-of-mul-le-mul-right, mul-pos, div-mul-le-self, lt-div-mul-add}
 use native.Mathlib.Omega.{arith}
-use lib.Pow.{pow-pos}
-use lib.IntN.{ℤ}
-use lib.Dec.{T, eqb, lit<, lit≤}
-use lib.Ieee.{Float, nan, inf, fin, binary32, up, down, round, units, mul, div, le, unlike, ofInt, odd, size}
-use lib.Ieee.Fits.{up-pos, down-pos, round-is}
-use lib.Ieee.Order.{drop, kept, round-mono}
+use lib.Dec.{T, eqb}
+use lib.Ieee.{Float, nan, inf, fin, binary32, up, down, round, mul, div, unlike, ofInt, size}
+use lib.Ieee.Fits.{down-pos, round-is}
+use lib.Ieee.Order.{drop, kept}
 use lib.Ieee.Exact.{HasValue, units-val}
-use mathlib.Core.Logic.{_⊎_, inl, inr}
 use Rattle.std.proofs.shelf.Tests.{cond-false, ne-eqb}
 use Rattle.std.specs.Floats.{wholeBy, roundAway, halfUp}
 use Rattle.digits.specs.Rounded.{power-of-ten}
 use Rattle.digits.proofs.ReadsBack.{rounded-grains}
-use Rattle.digits.proofs.Values.{grains-le}
 use Rattle.digits.proofs.ErrorBound.{Off, off}
 
 expand : (n c G k : ℕ) → (2 ^ 24 * n + n + 2 ^ 23 * c) * k ≡ 2 ^ 24 * (n * k) + n * k + 2 ^ 23 * (c * k)

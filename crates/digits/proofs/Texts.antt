@@ -1,15 +1,15 @@
 -- Plain texts and what they say: a plain text is the spelling of its units and places, and a spelling says just those.
 use mathlib.Core.Path.{_≡_, refl, sym, ap, _∙_, subst}
-use mathlib.Core.Logic.{_⊎_, inl, inr}
+use mathlib.Core.Logic.{inl, inr}
 use mathlib.Core.Bool.{Bool, true, false, cond}
 use mathlib.Core.List.{List, [], _∷_, _++_}
 use Prim.Native.Nat.{ℕ, zero, suc, _+_, _-_, _*_, _/_, _%_, _^_, _≤_, _<_}
-use native.Mathlib.Nat.{pow-suc, mul-comm, mul-assoc, le-refl, mod-eq-of-lt, mul-mod-left, div-add-mod', eq-zero-or-pos, pow-le-pow-right, div-one, eq-of-mul-eq-mul-right, div-le-self, lt-of-le-of-lt}
+use native.Mathlib.Nat.{pow-suc, mul-comm, mul-assoc, le-refl, mul-mod-left, div-add-mod', eq-zero-or-pos, pow-le-pow-right, div-one, eq-of-mul-eq-mul-right, div-le-self}
 use native.Mathlib.Omega.{arith}
 use borrow.Author.Needs.{needs}
-use lib.Arith.{digits-div, digits-mod, mod-mul}
-use lib.Dec.{eqb, leb, lit<}
-use lib.ListN.{length, getD, length-append}
+use lib.Arith.{digits-div, mod-mul}
+use lib.Dec.{eqb, lit<}
+use lib.ListN.{length, getD}
 use lib.Pow.{pow-add}
 use Rattle.std.proofs.shelf.Decimals.{digits-decimal, value-decimal, decimal-value, decimal-some, decimal-digit, first-decimal}
 use Rattle.std.proofs.shelf.Numerals.{Numerals, numerals-by-fold, value-short, tells-allDigits}

@@ -1,14 +1,13 @@
 -- A finite f32 and its grains, the whole number of 2 ^ -149ths that it is; and the parts of a float that is shown bare.
 use mathlib.Core.Path.{_≡_, refl, sym, ap, _∙_, subst}
-use mathlib.Core.Logic.{_⊎_, inl, inr}
+use mathlib.Core.Logic.{inl, inr}
 use mathlib.Core.Bool.{Bool, true, false, not, cond, _&&_, _||_}
 use Prim.Native.Nat.{ℕ, zero, suc, _+_, _-_, _*_, _/_, _%_, _^_, _≤_, _<_}
-use native.Mathlib.Nat.{mul-comm, mul-assoc, mul-right-comm, mul-one, mul-div-cancel, mul-le-mul, mul-le-mul-left, mul-le-mul-right, le-of-mul-le-mul-right, le-trans, le-of-eq, mul-pos}
+use native.Mathlib.Nat.{mul-comm, mul-assoc, mul-right-comm, mul-one, mul-div-cancel, mul-le-mul-left, mul-le-mul-right, le-of-mul-le-mul-right, le-trans, le-of-eq, mul-pos}
 use native.Mathlib.Omega.{arith}
-use lib.Dec.{T, leb, ltb, eqb, ltb→lt, eqb→eq}
-use lib.IntN.{ℤ}
+use lib.Dec.{T, leb, ltb, eqb}
 use lib.Pow.{pow-pos, pow-mono}
-use lib.Ieee.{Float, nan, inf, fin, binary32, up, down, fits, toBits, ofBits, ofFields, odd, le, lt, eq, isNan}
+use lib.Ieee.{Float, nan, inf, fin, binary32, up, down, fits, toBits, ofBits, ofFields, odd, le, isNan}
 use lib.Ieee.Bits.{ofBits-toBits}
 use lib.Ieee.Exact.{HasValue, odd-sign}
 use lib.Ieee.Fits.{down-pos}
@@ -17,7 +16,7 @@ use lib.Ieee.Scale.{finite}
 use Rattle.std.proofs.shelf.Tests.{cases-lt}
 use Rattle.std.proofs.shelf.Ways.{tells}
 use Rattle.std.specs.Floats.{negative, withSign}
-use Rattle.digits.specs.Magnitudes.{grains, nought, least, most, bare-domain, rounded-domain}
+use Rattle.digits.specs.Magnitudes.{grains, least, most}
 use Rattle.digits.specs.Scaled.{Parts}
 
 -- ---- the value by the fields of the bits

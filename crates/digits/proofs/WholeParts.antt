@@ -1,10 +1,10 @@
 -- Cutting a float of the domain to its whole part: it can be done, and gives the whole part of the magnitude.
-use mathlib.Core.Path.{_≡_, refl, sym, ap, _∙_, subst}
-use mathlib.Core.Bool.{Bool, true, false, cond, false≢true}
-use Prim.Native.Nat.{ℕ, _+_, _-_, _*_, _/_, _^_, _≤_, _<_, min}
-use native.Mathlib.Nat.{mul-one, one-mul, div-le-of-le-mul, mul-comm, min-eq-left}
+use mathlib.Core.Path.{_≡_}
+use mathlib.Core.Bool.{Bool, true, false, false≢true}
+use Prim.Native.Nat.{ℕ, _+_, _-_, _*_, _/_, _^_, _≤_, _<_}
+use native.Mathlib.Nat.{one-mul}
 use native.Mathlib.Omega.{arith}
-use lib.Dec.{T, ltb, lt→ltb}
+use lib.Dec.{T, lt→ltb}
 use lib.IntN.{ℤ, pos}
 use lib.Pow.{pow-pos}
 use lib.Ieee.{Float, nan, inf, fin, binary32, up, down, fits, ofBits, le, lt, toUnsigned}
@@ -12,7 +12,7 @@ use lib.Ieee.Exact.{HasValue}
 use lib.Ieee.Fits.{down-pos}
 use lib.Ieee.Nearest.{div-same}
 use Rattle.std.specs.Floats.{negative, withSign}
-use Rattle.digits.specs.Magnitudes.{grains, most, rounded-domain}
+use Rattle.digits.specs.Magnitudes.{grains, rounded-domain}
 use Rattle.digits.specs.Rounded.{whole-part}
 use Rattle.digits.proofs.Values.{valued, finite-in, at-most}
 

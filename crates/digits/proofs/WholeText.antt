@@ -1,12 +1,12 @@
 -- The theorem on whole numbers: the text says the number, and no other plain text without minus or point does.
-use mathlib.Core.Path.{_≡_, refl, sym, ap, _∙_, subst}
+use mathlib.Core.Path.{_≡_, sym, ap, _∙_, subst}
 use mathlib.Core.Bool.{Bool, false}
-use mathlib.Core.List.{List, [], _∷_, _++_, append-nil}
+use mathlib.Core.List.{List, append-nil}
 use Prim.Native.Nat.{ℕ, _/_, _^_, _<_}
 use native.Mathlib.Nat.{div-one}
 use native.Mathlib.Omega.{arith}
 use Rattle.std.specs.Written.{decimal}
-use Rattle.digits.specs.Decimals.{minus, units, places, spelling}
+use Rattle.digits.specs.Decimals.{units, places, spelling}
 use Rattle.digits.specs.Theorems.{SaysWhole, WholeStands}
 use Rattle.digits.proofs.Texts.{Lowest, spelling-plain, spelling-says, plain-spelling}
 

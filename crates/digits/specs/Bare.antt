@@ -1,12 +1,12 @@
 -- The bare text of a float: the shortest decimal that reads back, the nearest of those, the larger of two as near.
 use mathlib.Core.Path.{_≡_}
-use mathlib.Core.Bool.{Bool, true, false, cond}
+use mathlib.Core.Bool.{Bool, cond}
 use mathlib.Core.List.{List}
 use Prim.Native.Nat.{ℕ, zero, suc, _+_, _-_, _*_, _/_, _%_, _^_, _≤_, _<_}
 use lib.Dec.{eqb, leb}
 use lib.Ieee.{Float, binary32, round, toBits}
 use Rattle.std.specs.Floats.{negative}
-use Rattle.digits.specs.Decimals.{nearest-float, reads, units, places, minus, Plain, spelling}
+use Rattle.digits.specs.Decimals.{nearest-float, reads, units, places, Plain, spelling}
 use Rattle.digits.specs.Magnitudes.{grains, apart}
 use Rattle.digits.specs.Scaled.{chosen}
 
@@ -67,5 +67,10 @@ first-place (suc d) (suc n) x i = i
 abbrev pub coarsest : Float → ℕ
 coarsest x = first-place 28 (best-at x 0) x 0
 
+-- the units of that place, spelled out
+abbrev pub shortest-text : Float → List ℕ
+shortest-text x = let i = coarsest x in spelling (negative x) (best-at x i * tens-above i) (i - 12)
+
+-- a zero has no digits to search for
 unfoldable pub bare : Float → List ℕ
-bare x = cond (eqb (grains x) 0) (spelling (negative x) 0 0) (spelling (negative x) (best-at x (coarsest x) * tens-above (coarsest x)) (coarsest x - 12))
+bare x = cond (eqb (grains x) 0) (spelling (negative x) 0 0) (shortest-text x)

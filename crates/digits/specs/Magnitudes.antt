@@ -1,7 +1,6 @@
 -- The size of a float in whole numbers, distances, and which floats can be shown.
-use mathlib.Core.Bool.{Bool, true, false, cond, _&&_, _||_}
+use mathlib.Core.Bool.{Bool, false, _&&_, _||_}
 use Prim.Native.Nat.{ℕ, _+_, _-_, _*_, _/_, _^_}
-use lib.Dec.{leb}
 use lib.Ieee.{Float, nan, inf, fin, binary32, up, down, le, eq, ofBits}
 use Rattle.std.specs.Floats.{withSign}
 

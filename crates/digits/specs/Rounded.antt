@@ -1,7 +1,7 @@
 -- The rounded text of a float at a precision, and how far from the float it may read back.
-use mathlib.Core.Bool.{Bool, true, false, cond, _&&_, not, Bool·beq}
+use mathlib.Core.Bool.{Bool, cond, _&&_, not, Bool·beq}
 use mathlib.Core.List.{List}
-use Prim.Native.Nat.{ℕ, _+_, _-_, _*_, _/_, _^_, _≤_}
+use Prim.Native.Nat.{ℕ, _+_, _*_, _/_, _^_, _≤_}
 use lib.Dec.{eqb}
 use lib.IntN.{pos}
 use lib.Ieee.{Float, binary32, ofInt, ofBits, mul, div, sub, le}

@@ -1,6 +1,5 @@
 -- A float taken apart, and the whole numbers in which the places of its decimals are searched.
-use mathlib.Core.Path.{_≡_}
-use mathlib.Core.Bool.{Bool, true, false, cond, _&&_, _||_, not}
+use mathlib.Core.Bool.{Bool, cond, _&&_, _||_, not}
 use Prim.Native.Nat.{ℕ, _+_, _-_, _*_, _/_, _%_, _^_, _≤_, _<_}
 use lib.Dec.{T, eqb, leb, ltb}
 use lib.Ieee.{Float, binary32, fits}

@@ -2,15 +2,31 @@
 use mathlib.Core.Path.{_≡_}
 use mathlib.Core.Bool.{Bool, true, false}
 use mathlib.Core.List.{List, [], _∷_}
-use Prim.Native.Nat.{ℕ, _^_, _<_, _≤_}
+use mathlib.Core.Logic.{_⊎_, _↔_}
+use Prim.Native.Nat.{ℕ, _*_, _%_, _^_, _<_, _≤_}
 use lib.Chars.{codes}
-use lib.Ieee.{Float, nan, inf, binary32, fits, ofBits}
+use lib.Ieee.{Float, nan, inf, binary32, fits, ofBits, toBits}
+use lib.Ieee.Scale.{finite}
 use Rattle.std.specs.Written.{decimal}
 use Rattle.std.specs.shelf.Lists.{All}
-use Rattle.digits.specs.Decimals.{minus, units, places, reads, Plain, NumberByte}
-use Rattle.digits.specs.Magnitudes.{bare-domain, rounded-domain}
-use Rattle.digits.specs.Bare.{bare, Shows}
+use Rattle.digits.specs.Decimals.{nearest-float, minus, units, places, reads, Plain, NumberByte}
+use Rattle.digits.specs.Magnitudes.{grains, bare-domain, rounded-domain}
+use Rattle.digits.specs.Bare.{away, bare, Shows}
 use Rattle.digits.specs.Rounded.{rounded, Close}
+
+-- the domains over whole numbers: finite, at most 2 ^ 40, and for a bare number zero or at least 11258999 * 2 ^ -50, the f32 nearest to 10 ^ -8
+abbrev pub Sized : Float → Type 0
+Sized x = (finite x ≡ true) × (grains x ≤ 2 ^ 40 * 2 ^ 149)
+
+abbrev pub DomainStands : Type 0
+DomainStands = (x : Float) → fits binary32 x ≡ true
+    → (rounded-domain x ≡ true ↔ Sized x) × (bare-domain x ≡ true ↔ (Sized x × ((grains x ≡ 0) ⊎ (11258999 * 2 ^ 99 ≤ grains x))))
+
+-- what a decimal reads as is a nearest float: no float is nearer, and where another one is as near, the last binary digit read is even
+abbrev pub ReadingStands : Type 0
+ReadingStands = (s : Bool) (n k : ℕ) (y : Float) → finite (nearest-float s n k) ≡ true → fits binary32 y ≡ true → finite y ≡ true
+    → (away (nearest-float s n k) n k ≤ away y n k)
+    × (away (nearest-float s n k) n k ≡ away y n k → (grains (nearest-float s n k) ≡ grains y → ⊥) → toBits binary32 (nearest-float s n k) % 2 ≡ 0)
 
 -- the bare text is the shortest, nearest, larger one, and no other text is
 abbrev pub BareStands : Type 0

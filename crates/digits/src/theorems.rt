@@ -1,5 +1,5 @@
 // What is proved of the definitions, each as the contract of a function that does nothing.
-ghost use Rattle.digits.specs.Theorems.{BareStands, KnownTexts, PlainStands, RoundedStands, WholeStands};
+ghost use Rattle.digits.specs.Theorems.{BareStands, DomainStands, KnownTexts, PlainStands, ReadingStands, RoundedStands, WholeStands};
 
 // The table of known texts, and of floats inside and outside the domains.
 pub fn known_texts_stand() -> u8
@@ -32,6 +32,20 @@ pub fn whole_stands() -> u8
 // A plain text has only digits, a point and a minus.
 pub fn plain_stands() -> u8
     ensures { λ _. ⌜ PlainStands ⌝ }
+{
+    0
+}
+
+// The domains, over whole numbers.
+pub fn domains_stand() -> u8
+    ensures { λ _. ⌜ DomainStands ⌝ }
+{
+    0
+}
+
+// A decimal reads as the nearest float, of two as near as the even one.
+pub fn reading_stands() -> u8
+    ensures { λ _. ⌜ ReadingStands ⌝ }
 {
     0
 }

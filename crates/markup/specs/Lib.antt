@@ -7,3 +7,15 @@ pub mod Numbers
 pub mod Lists
 pub mod Colors
 pub mod Matrices
+pub mod Characters
+pub mod Trees
+pub mod Renderings
+pub mod CharacterReferences
+pub mod AttributeSpecifications
+pub mod Content
+pub mod Readings
+pub mod Encodings
+pub mod Unfinished
+pub mod Growth
+pub mod Checks
+pub mod Samples

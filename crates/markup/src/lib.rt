@@ -1,4 +1,4 @@
-//! XML as it is written: a pen over a store, escapes, attributes.
+//! XML as it is written: a pen over a store, escapes, attributes; and what it reads as.
 //!
 //! Writers never fail. A pen writes what fits and remembers whether a byte was lost; the call that began it settles it in
 //! the end, and cuts the store back where not all fitted. So each writer's contract is one equation: the state of the pen
@@ -13,6 +13,7 @@ pub mod matrices;
 pub mod numbers;
 pub mod pens;
 pub mod quotes;
+pub mod readings;
 pub mod references;
 pub mod tags;
 pub mod texts;

@@ -1,10 +1,10 @@
-use mathlib.Core.Path.{_≡_, refl, sym, ap, _∙_, subst}
-use Prim.Native.Nat.{ℕ, _*_, _^_, _≤_, _<_, _/_, _%_, _-_}
+use mathlib.Core.Path.{_≡_, sym, subst}
+use Prim.Native.Nat.{ℕ, _*_, _^_, _≤_, _-_}
 use native.Mathlib.Nat.{mul-le-mul, pow-le-pow-right, le-trans}
 use native.Mathlib.Omega.{arith}
 use lib.Dec.{lit<, lit≤}
 use lib.Pow.{pow-mono}
-use Rattle.digits.specs.Scaled.{gap, step}
+use Rattle.digits.specs.Scaled.{gap}
 use Rattle.digits.proofs.places.gap_at.Needs as need
 
 small : (j i : ℕ) → j ≤ 166 → i ≤ 28 → gap j i ≤ 2 ^ 72

@@ -1,6 +1,5 @@
-use mathlib.Core.Path.{_≡_, refl}
-use Prim.Native.Nat.{ℕ, _*_, _^_, _≤_, _<_, _/_, _%_}
-use native.Mathlib.Nat.{mul-le-mul, le-of-lt, div-le-self, mod-le}
+use Prim.Native.Nat.{ℕ, _*_, _^_, _≤_, _<_, _/_}
+use native.Mathlib.Nat.{mul-le-mul, le-of-lt, div-le-self}
 use native.Mathlib.Omega.{arith}
 use borrow.Author.Needs.{needs}
 use Rattle.digits.proofs.places.nearest_units.Needs as need

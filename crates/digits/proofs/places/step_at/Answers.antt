@@ -1,10 +1,10 @@
-use mathlib.Core.Path.{_≡_, refl, sym, ap, _∙_, subst}
-use Prim.Native.Nat.{ℕ, _*_, _^_, _≤_, _<_, _/_, _%_, _-_}
-use native.Mathlib.Nat.{mul-le-mul, pow-le-pow-right, le-trans, mul-pos, lt-of-lt-of-le}
+use mathlib.Core.Path.{_≡_, sym, subst}
+use Prim.Native.Nat.{ℕ, _*_, _^_, _≤_, _<_, _-_}
+use native.Mathlib.Nat.{mul-le-mul, pow-le-pow-right, le-trans, mul-pos}
 use native.Mathlib.Omega.{arith}
 use lib.Dec.{lit<, lit≤}
 use lib.Pow.{pow-mono, pow-pos}
-use Rattle.digits.specs.Scaled.{gap, step}
+use Rattle.digits.specs.Scaled.{step}
 use Rattle.digits.proofs.places.step_at.Needs as need
 
 small : (j i : ℕ) → 99 ≤ j → step j i ≤ 2 ^ 96

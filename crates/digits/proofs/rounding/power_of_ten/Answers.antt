@@ -1,7 +1,6 @@
-use mathlib.Core.Path.{_≡_, refl, sym, ap, subst}
-use Prim.Native.Nat.{ℕ}
+use mathlib.Core.Path.{_≡_, sym, ap}
 use native.Mathlib.Omega.{arith}
-use lib.Ieee.{Float, binary32, ofBits, ofInt}
+use lib.Ieee.{ofBits, ofInt}
 use Rattle.digits.specs.Rounded.{power-of-ten}
 use Rattle.digits.proofs.rounding.power_of_ten.Needs as need
 

@@ -1,9 +1,7 @@
-use mathlib.Core.Path.{_≡_, refl, sym, ap, _∙_}
-use mathlib.Core.List.{List, [], _∷_, _++_}
-use Prim.Native.Nat.{ℕ, zero, suc, _+_, _≤_, _<_}
+use mathlib.Core.Path.{ap}
 use native.Mathlib.Omega.{arith}
 use lib.ListN.{length, length-append}
-use Rattle.digits.specs.Decimals.{figures, pointed}
+use Rattle.digits.specs.Decimals.{figures}
 use Rattle.digits.specs.Numerals.{text-of}
 use Rattle.digits.proofs.Texts.{length-figures}
 use Rattle.digits.proofs.spelling.fraction_before.Needs as need

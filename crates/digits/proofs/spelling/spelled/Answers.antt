@@ -1,5 +1,4 @@
-use mathlib.Core.Path.{_≡_, refl, sym, ap, _∙_}
-use mathlib.Core.List.{List, [], _∷_, _++_}
+use mathlib.Core.Path.{ap}
 use Prim.Native.Nat.{ℕ, zero, suc, _+_, _/_, _^_, _≤_, _<_}
 use native.Mathlib.Nat.{div-le-self}
 use native.Mathlib.Omega.{arith}
@@ -7,7 +6,7 @@ use lib.Dec.{lit<}
 use lib.ListN.{length, length-append}
 use Rattle.std.proofs.shelf.Decimals.{length-decimal-le}
 use Rattle.std.specs.Written.{decimal}
-use Rattle.digits.specs.Decimals.{figures, pointed}
+use Rattle.digits.specs.Decimals.{pointed}
 use Rattle.digits.specs.Numerals.{text-of}
 use Rattle.digits.proofs.Texts.{length-figures}
 use Rattle.digits.proofs.spelling.spelled.Needs as need
