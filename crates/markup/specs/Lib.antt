@@ -3,6 +3,7 @@ pub mod State
 pub mod Escapes
 pub mod Attributes
 pub mod Tags
+pub mod Elements
 pub mod Numbers
 pub mod Lists
 pub mod Colors

@@ -10,10 +10,15 @@ ghost use lib.Chars.{codes};
 ghost use Rattle.markup.specs.Attributes.{attribute, attributes-then};
 ghost use Rattle.markup.specs.Pens.{after};
 ghost use Rattle.markup.specs.State.{state};
-ghost use Rattle.markup.specs.Tags.{begun, end-tag};
+ghost use Rattle.markup.specs.Tags.{begun, end-tag, first-text};
+ghost use Rattle.markup.specs.Elements.{name-of, has-content, ending};
+ghost use Rattle.markup.specs.Escapes.{text-then};
+ghost use lib.Dec.{ltb};
+ghost use lib.ListN.{length};
 use crate::attributes::write_attribute;
 use crate::pens::Pen;
 use crate::quotes::Quote;
+use crate::texts::write_text;
 use crate::values::Shown;
 use stores::Store;
 
@@ -25,6 +30,12 @@ pub struct Tag {
 /// An element whose start tag is finished. It takes content.
 pub struct Body {
     name: &'static [u8],
+}
+
+/// An element that may have got content.
+pub enum Begun {
+    Tag(Tag),
+    Body(Body),
 }
 
 impl Tag {
@@ -55,6 +66,20 @@ impl Tag {
         Body { name }
     }
 
+    /// A text as first content. An empty text is none.
+    pub fn text<S: Store>(self, pen: &mut Pen<S>, text: &[u8]) -> Begun
+        ensures named { λ r. ⌜ at (name-of r) ≡ at (self .name) ⌝ }
+        ensures turned { λ r. ⌜ has-content r ≡ ltb 0 (length (now (text .entry))) ⌝ }
+        ensures wrote { λ _. ⌜ state S·Store (now (pen .exit)) ≡ after (state S·Store (now (pen .entry))) (first-text (now (text .entry))) ⌝ }
+    {
+        if text.len() == 0 {
+            return Begun::Tag(self);
+        }
+        let body = self.body(pen);
+        write_text(pen, text);
+        Begun::Body(body)
+    }
+
     /// Ends the element, which has no content.
     pub fn end<S: Store>(self, pen: &mut Pen<S>)
         ensures { λ _. ⌜ state S·Store (now (pen .exit)) ≡ after (state S·Store (now (pen .entry))) (codes "/>") ⌝ }
@@ -65,6 +90,13 @@ impl Tag {
 }
 
 impl Body {
+    /// More text.
+    pub fn text<S: Store>(&self, pen: &mut Pen<S>, text: &[u8])
+        ensures { λ _. ⌜ state S·Store (now (pen .exit)) ≡ after (state S·Store (now (pen .entry))) (text-then (now (text .entry)) []) ⌝ }
+    {
+        write_text(pen, text);
+    }
+
     /// Ends the element.
     pub fn end<S: Store>(self, pen: &mut Pen<S>)
         ensures { λ _. ⌜ state S·Store (now (pen .exit)) ≡ after (state S·Store (now (pen .entry))) (end-tag (at (self .name))) ⌝ }
@@ -73,5 +105,17 @@ impl Body {
         pen.bytes(b"</");
         pen.bytes(name);
         pen.byte(b'>');
+    }
+}
+
+impl Begun {
+    /// Ends the element: in its start tag where it got no content.
+    pub fn end<S: Store>(self, pen: &mut Pen<S>)
+        ensures { λ _. ⌜ state S·Store (now (pen .exit)) ≡ after (state S·Store (now (pen .entry))) (ending self) ⌝ }
+    {
+        match self {
+            Begun::Tag(tag) => tag.end(pen),
+            Begun::Body(body) => body.end(pen),
+        }
     }
 }
