@@ -1,1 +1,9 @@
 pub mod Loops
+pub mod Scans
+pub mod Words
+pub mod Ranges
+pub mod Keeping
+pub mod Orders
+pub mod Forests
+pub mod Whole
+pub mod Names

@@ -8,7 +8,7 @@ use Rattle.std.specs.declared.result.Result.the-variants.{Ok, Err}
 use Rattle.drawing.specs.declared.names.AId.{AId}
 use Rattle.drawing.specs.declared.faults.ValueFault.{ValueFault}
 use Rattle.drawing.specs.declared.faults.ValueFault.the-variants.{Id}
-use Rattle.drawing.specs.declared.faults.IdFault.the-variants.{TooLong, BadByte}
+use Rattle.drawing.specs.declared.faults.IdFault.the-variants.{Missing, TooLong, BadByte}
 use Rattle.drawing.specs.declared.faults.AttributeFault.{AttributeFault}
 use Rattle.drawing.specs.Faults.{in-attribute}
 use Rattle.checks.specs.Verdicts.{Verdict, every, recast, found-in}
@@ -26,6 +26,10 @@ id-bytes bytes = every id-byte bytes
 -- at most 64 of them
 unfoldable pub id-verdict : List ℕ → Verdict ValueFault
 id-verdict bytes = cond (ltb 64 (length bytes)) (Err (Id TooLong)) (cond (id-bytes bytes) (Ok tt) (Err (Id BadByte)))
+
+-- an id that is referred to
+unfoldable pub reference-verdict : List ℕ → Verdict ValueFault
+reference-verdict bytes = cond (eqb (length bytes) 0) (Err (Id Missing)) (id-verdict bytes)
 
 -- in an attribute
 unfoldable pub id-in : AId → List ℕ → Verdict AttributeFault

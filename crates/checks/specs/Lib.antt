@@ -1,3 +1,12 @@
 pub mod Verdicts
 pub mod Ids
 pub mod Settings
+pub mod Numbers
+pub mod Texts
+pub mod Families
+pub mod Entries
+pub mod Rows
+pub mod Tables
+pub mod Calls
+pub mod Sound
+pub mod BareNames

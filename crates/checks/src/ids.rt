@@ -1,8 +1,9 @@
-//! The rule for ids: at most 64 bytes, each an ASCII letter, a digit, `_`, `-`, `.` or `:`.
+//! The rule for ids: at most 64 bytes, each an ASCII letter, a digit, `_`, `-`, `.` or `:`. An id that is referred to
+//! is not empty.
 
 ghost use mathlib.Core.Path.{_≡_};
 ghost use mathlib.Core.Bool.{Bool, true, false};
-ghost use Rattle.checks.specs.Ids.{id-byte, id-bytes, id-verdict, id-in};
+ghost use Rattle.checks.specs.Ids.{id-byte, id-bytes, id-verdict, id-in, reference-verdict};
 use crate::verdicts::found_at;
 use drawing::faults::AttributeFault;
 use drawing::faults::IdFault;
@@ -50,6 +51,16 @@ pub fn id(bytes: &[u8]) -> Result<(), ValueFault>
         return Err(ValueFault::Id(IdFault::BadByte));
     }
     Ok(())
+}
+
+/// An id that is referred to, which may not be empty.
+pub fn reference(bytes: &[u8]) -> Result<(), ValueFault>
+    ensures { λ r. ⌜ r ≡ reference-verdict (now (bytes .entry)) ⌝ }
+{
+    if bytes.len() == 0 {
+        return Err(ValueFault::Id(IdFault::Missing));
+    }
+    id(bytes)
 }
 
 /// An id in an attribute.

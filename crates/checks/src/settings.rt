@@ -8,6 +8,7 @@ use drawing::options::WriteOptions;
 
 /// The largest precision, and the most bytes of a prefix.
 const FINEST: u8 = 8;
+
 const LONGEST_PREFIX: usize = 32;
 
 fn is_prefix(prefix: &[u8]) -> bool

@@ -8,7 +8,7 @@ use Rattle.drawing.specs.declared.names.AId.{AId}
 use Rattle.drawing.specs.declared.faults.IdFault.{IdFault}
 use Rattle.drawing.specs.declared.faults.NumberFault.{NumberFault}
 use Rattle.drawing.specs.declared.faults.ValueFault.{ValueFault}
-use Rattle.drawing.specs.declared.faults.ValueFault.the-variants.{Id, Empty, Number, Text, Family}
+use Rattle.drawing.specs.declared.faults.ValueFault.the-variants.{Place, Id, Empty, Number, Text, Family}
 use Rattle.drawing.specs.declared.faults.Found.{Found}
 use Rattle.drawing.specs.declared.faults.AttributeFault.{AttributeFault}
 use Rattle.drawing.specs.declared.faults.NodeFault.{NodeFault}
@@ -18,6 +18,10 @@ use Rattle.drawing.specs.declared.faults.Fault.the-variants.{Setting, Moment, 
 -- each layer holds the lower one whole
 abbrev pub in-attribute : Found AId ValueFault → AttributeFault
 in-attribute found = record { attribute = Some (found .place); fault = found .fault }
+
+-- of a text that stands in no attribute
+abbrev pub outside-attributes : ValueFault → AttributeFault
+outside-attributes fault = record { attribute = None; fault = fault }
 
 abbrev pub in-node : Found ℕ AttributeFault → NodeFault
 in-node found = record { node = Some (found .place); fault = found .fault }
@@ -29,6 +33,7 @@ abbrev pub of-node : NodeFault → Fault
 of-node fault = Value fault
 
 abbrev pub value-number : ValueFault → ℕ
+value-number Place = 3
 value-number (Id fault) = 4
 value-number Empty = 5
 value-number (Number fault) = 6
@@ -36,6 +41,7 @@ value-number Text = 7
 value-number Family = 8
 
 abbrev pub value-word : ValueFault → List ℕ
+value-word Place = codes "table"
 value-word (Id fault) = codes "id"
 value-word Empty = codes "empty"
 value-word (Number fault) = codes "number"
@@ -58,6 +64,6 @@ report (Value found) =
       number = value-number (found .fault .fault);
       word = value-word (found .fault .fault);
       attribute = found .fault .attribute;
-      node = found .node
+      node = found .node;
     }
 report Full = record { number = 9; word = codes "full"; attribute = None; node = None }

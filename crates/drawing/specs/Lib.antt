@@ -1,3 +1,4 @@
 pub mod Options
 pub mod Names
 pub mod Faults
+pub mod Tables

@@ -12,7 +12,7 @@ defaults = record {
   «preserve_text» = false;
   «coordinates_precision» = 8;
   «transforms_precision» = 8;
-  «use_single_quote» = false
+  «use_single_quote» = false;
 }
 
 abbrev pub bytes-of : Option (RefT (List ℕ)) → List ℕ

@@ -5,7 +5,7 @@
 //! `Report` in `specs/` maps every fault to its number, word, attribute and node, and the questions below answer by it.
 
 ghost use mathlib.Core.Path.{_≡_};
-ghost use Rattle.drawing.specs.Faults.{report, value-number, value-word, in-attribute, in-node, outside-nodes, of-node};
+ghost use Rattle.drawing.specs.Faults.{report, value-number, value-word, in-attribute, outside-attributes, in-node, outside-nodes, of-node};
 use crate::names::AId;
 
 /// An id against its rule.
@@ -19,14 +19,17 @@ pub enum IdFault {
 /// A number against its rule.
 #[derive(Clone, Copy)]
 pub enum NumberFault {
-    TooLarge,
-    TooSmall,
+    /// It has no text: too large, too small to be shown bare, or no number at all.
+    OutsideDomain,
+    /// It is shown, but its attribute takes no such number.
     OutOfRange,
 }
 
 /// The rule that a value breaks.
 #[derive(Clone, Copy)]
 pub enum ValueFault {
+    /// A place that does not lie in its list, or has too many entries.
+    Place,
     Id(IdFault),
     Empty,
     Number(NumberFault),
@@ -72,7 +75,21 @@ pub impl From<Found<AId, ValueFault>> for AttributeFault as ValueInAttribute {
     ghost converts = { λ e r. r ≡ in-attribute e };
 
     fn from(found: Found<AId, ValueFault>) -> AttributeFault {
-        AttributeFault { attribute: Some(found.place), fault: found.fault }
+        AttributeFault {
+            attribute: Some(found.place),
+            fault: found.fault,
+        }
+    }
+}
+
+pub impl From<ValueFault> for AttributeFault as ValueOutsideAttributes {
+    ghost converts = { λ e r. r ≡ outside-attributes e };
+
+    fn from(fault: ValueFault) -> AttributeFault {
+        AttributeFault {
+            attribute: None,
+            fault,
+        }
     }
 }
 
@@ -80,7 +97,10 @@ pub impl From<Found<usize, AttributeFault>> for NodeFault as AttributeInNode {
     ghost converts = { λ e r. r ≡ in-node e };
 
     fn from(found: Found<usize, AttributeFault>) -> NodeFault {
-        NodeFault { node: Some(found.place), fault: found.fault }
+        NodeFault {
+            node: Some(found.place),
+            fault: found.fault,
+        }
     }
 }
 
@@ -105,6 +125,7 @@ impl ValueFault {
         ensures { λ r. ⌜ r ≡ value-number self ⌝ }
     {
         match self {
+            ValueFault::Place => 3,
             ValueFault::Id(_) => 4,
             ValueFault::Empty => 5,
             ValueFault::Number(_) => 6,
@@ -117,6 +138,7 @@ impl ValueFault {
         ensures { λ r. ⌜ now r ≡ value-word self ⌝ }
     {
         match self {
+            ValueFault::Place => b"table",
             ValueFault::Id(_) => b"id",
             ValueFault::Empty => b"empty",
             ValueFault::Number(_) => b"number",

@@ -32,15 +32,15 @@ Numeral word = (0 < length word) × (digits word ≡ true)
 abbrev pub Said : List ℕ → ℕ → Option ℕ → Type 0
 Said word most answer =
     BySome answer
-      (Numeral word → most < value word)
-      (λ n. Numeral word × (n ≡ value word) × (n ≤ most))
+    (Numeral word → most < value word)
+    (λ n. Numeral word × (n ≡ value word) × (n ≤ most))
 
 -- a hexadecimal digit in either case
 abbrev pub hex-value : ℕ → Option ℕ
 hex-value b =
     cond (leb 48 b && leb b 57) (Some (b - 48))
-      (cond (leb 97 b && leb b 102) (Some (b - 97 + 10))
-        (cond (leb 65 b && leb b 70) (Some (b - 65 + 10)) None))
+    (cond (leb 97 b && leb b 102) (Some (b - 97 + 10))
+    (cond (leb 65 b && leb b 70) (Some (b - 65 + 10)) None))
 
 -- the digit of a value below sixteen, in lower case
 abbrev pub hex-digit : ℕ → ℕ

@@ -12,10 +12,10 @@ use Rattle.mapplate.specs.Numbers.{hex-digit}
 abbrev pub short : ℕ → Option ℕ
 short b =
     cond (eqb b 34) (Some 34)
-      (cond (eqb b 92) (Some 92)
-        (cond (eqb b 10) (Some 110)
-          (cond (eqb b 13) (Some 114)
-            (cond (eqb b 9) (Some 116) None))))
+    (cond (eqb b 92) (Some 92)
+    (cond (eqb b 10) (Some 110)
+    (cond (eqb b 13) (Some 114)
+    (cond (eqb b 9) (Some 116) None))))
 
 abbrev pub printable : ℕ → Bool
 printable b = leb 32 b && leb b 126

@@ -53,19 +53,31 @@ pub enum Failure {
 pub fn at_word(heap: Global, line: usize, expected: Expected, word: &[u8]) -> Failure {
     let mut shown = Vec::new(heap);
     match push_quoted(&mut shown, word) {
-        Ok(()) => Failure::Script(ScriptError { line, expected, found: Found::Word(shown) }),
+        Ok(()) => Failure::Script(ScriptError {
+            line,
+            expected,
+            found: Found::Word(shown),
+        }),
         Err(_) => Failure::Memory,
     }
 }
 
 /// The failure of a line at its end.
 pub fn at_line_end(line: usize, expected: Expected) -> Failure {
-    Failure::Script(ScriptError { line, expected, found: Found::LineEnd })
+    Failure::Script(ScriptError {
+        line,
+        expected,
+        found: Found::LineEnd,
+    })
 }
 
 /// The failure of a script at its end.
 pub fn at_script_end(line: usize, expected: Expected) -> Failure {
-    Failure::Script(ScriptError { line, expected, found: Found::ScriptEnd })
+    Failure::Script(ScriptError {
+        line,
+        expected,
+        found: Found::ScriptEnd,
+    })
 }
 
 impl Expected {
@@ -79,7 +91,8 @@ impl Expected {
             Expected::OptionName => "prefix, preserve, coordinates, transforms or single",
             Expected::Prefix => "a prefix",
             Expected::Precision => "a number from 0 to 255",
-            Expected::ElementName => "svg, g, defs, mask, pattern, linearGradient or radialGradient",
+            Expected::ElementName =>
+                "svg, g, defs, mask, pattern, linearGradient or radialGradient",
             Expected::LineEnd => "the end of the line",
             Expected::Blank => "a space between words",
             Expected::ClosingQuote => "a closing quote",

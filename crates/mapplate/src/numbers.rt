@@ -48,5 +48,9 @@ pub fn hex_digit(value: u8) -> u8
     requires { ⌜ value < 16 ⌝ }
     ensures { λ r. ⌜ r ≡ hex-digit value ⌝ }
 {
-    if value < 10 { b'0' + value } else { b'a' + (value - 10) }
+    if value < 10 {
+        b'0' + value
+    } else {
+        b'a' + (value - 10)
+    }
 }

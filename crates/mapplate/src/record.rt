@@ -6,7 +6,6 @@ ghost use Prim.Native.Nat.{_<_};
 ghost use lib.ListN.{length};
 ghost use Rattle.std.specs.Of.Vec.{vec-items};
 ghost use Rattle.std.specs.Vec.{made};
-
 use crate::failures::Failure;
 use crate::failures::FailureFromAlloc;
 use crate::failures::FailureFromIo;
@@ -20,6 +19,7 @@ use stores::Store;
 
 /// The bytes of a roll's record, and how many of its text bytes stand in a group.
 const RECORD: usize = 64;
+
 const GROUP: usize = 9;
 
 /// The byte that fills the buffer before the store is made.

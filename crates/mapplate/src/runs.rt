@@ -3,12 +3,12 @@
 use crate::failures::Failure;
 use crate::failures::FailureFromAlloc;
 use crate::failures::FailureFromIo;
+use crate::record::FILL;
 use crate::record::put_beyond;
 use crate::record::put_fault;
 use crate::record::put_open;
 use crate::record::put_records;
 use crate::record::put_text;
-use crate::record::FILL;
 use crate::script::Line;
 use crate::script::Script;
 use crate::statements::Statement;
@@ -19,14 +19,18 @@ use plates::elements::Element;
 use plates::plates::Plate;
 use std::alloc::Global;
 use std::io::Write;
+use stores::Store;
 use stores::pages::Page;
 use stores::pages::PageStore;
 use stores::rolls::Roll;
 use stores::rolls::RollStore;
-use stores::Store;
 
 /// What came of a call.
-fn put_answer<S: Store>(out: &mut Vec<u8>, plate: &Plate<S>, answer: Result<(), Fault>) -> Result<(), Failure> {
+fn put_answer<S: Store>(
+    out: &mut Vec<u8>,
+    plate: &Plate<S>,
+    answer: Result<(), Fault>,
+) -> Result<(), Failure> {
     match answer {
         Ok(()) => {
             let held = plate.held();
@@ -38,7 +42,13 @@ fn put_answer<S: Store>(out: &mut Vec<u8>, plate: &Plate<S>, answer: Result<(), 
     }
 }
 
-fn run_open<S: Store>(out: &mut Vec<u8>, plate: &mut Plate<S>, options: &WriteOptions, element: Element, id: &[u8]) -> Result<(), Failure> {
+fn run_open<S: Store>(
+    out: &mut Vec<u8>,
+    plate: &mut Plate<S>,
+    options: &WriteOptions,
+    element: Element,
+    id: &[u8],
+) -> Result<(), Failure> {
     put_open(out, element, id)?;
     let answer = plate.open(options, element, id);
     put_answer(out, plate, answer)
@@ -60,7 +70,10 @@ fn put_counts<S: Store>(out: &mut Vec<u8>, plate: &Plate<S>) -> Result<(), Failu
     let depth = plate.depth();
     let held = plate.held();
     let owed = plate.closing_marks();
-    writeln!(out, "open elements {depth}\nheld {held}\nclosing marks {owed}")?;
+    writeln!(
+        out,
+        "open elements {depth}\nheld {held}\nclosing marks {owed}"
+    )?;
     Ok(())
 }
 
@@ -87,7 +100,12 @@ fn run<S: Store + Drop>(out: &mut Vec<u8>, store: S, lines: &[Line]) -> Result<S
 }
 
 /// The first line: the store with its size, and the length of its buffer.
-fn put_store<S: Store>(out: &mut Vec<u8>, kind: &str, store: &S, length: usize) -> Result<(), Failure> {
+fn put_store<S: Store>(
+    out: &mut Vec<u8>,
+    kind: &str,
+    store: &S,
+    length: usize,
+) -> Result<(), Failure> {
     let size = store.size();
     writeln!(out, "store {kind}, size {size}, buffer {length}")?;
     Ok(())

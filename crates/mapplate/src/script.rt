@@ -1,17 +1,17 @@
 //! A whole script: its store, and its other statements with the numbers of their lines.
 
-use crate::failures::at_line_end;
-use crate::failures::at_script_end;
-use crate::failures::at_word;
 use crate::failures::Expected;
 use crate::failures::Failure;
 use crate::failures::FailureFromRefused;
-use crate::statements::read_statement;
+use crate::failures::at_line_end;
+use crate::failures::at_script_end;
+use crate::failures::at_word;
 use crate::statements::Statement;
 use crate::statements::StoreChoice;
 use crate::statements::Words;
-use crate::words::words_of;
+use crate::statements::read_statement;
 use crate::words::WordFault;
+use crate::words::words_of;
 use std::alloc::Global;
 
 #[derive(Drop)]
@@ -78,10 +78,21 @@ fn words_at(heap: Global, number: usize, line: &[u8]) -> Result<Vec<Vec<u8>>, Fa
 
 impl Draft {
     /// Adds a statement; the store comes first, and once.
-    fn add(&mut self, heap: Global, number: usize, word: &[u8], statement: Statement) -> Result<(), Failure> {
+    fn add(
+        &mut self,
+        heap: Global,
+        number: usize,
+        word: &[u8],
+        statement: Statement,
+    ) -> Result<(), Failure> {
         match (self.store, statement) {
             (None, Statement::Store(choice)) => self.store = Some(choice),
-            (Some(_), Statement::Store(_)) => return Err(at_word(heap, number, Expected::OneStore, word)),
+            (Some(_), Statement::Store(_)) => return Err(at_word(
+                heap,
+                number,
+                Expected::OneStore,
+                word,
+            )),
             (None, _) => return Err(at_word(heap, number, Expected::FirstStore, word)),
             (Some(_), statement) => self.lines.push(Line { number, statement })?,
         }
@@ -90,7 +101,14 @@ impl Draft {
 
     fn read_line(&mut self, heap: Global, number: usize, line: &[u8]) -> Result<(), Failure> {
         let words = words_at(heap, number, line)?;
-        let statement = read_statement(heap, &mut Words { line: number, words: words.as_slice(), next: 0 })?;
+        let statement = read_statement(
+            heap,
+            &mut Words {
+                line: number,
+                words: words.as_slice(),
+                next: 0,
+            },
+        )?;
         match words.first() {
             Some(word) => self.add(heap, number, word.as_slice(), statement),
             None => Ok(()),
@@ -100,7 +118,10 @@ impl Draft {
 
 /// Reads a script whole.
 pub fn read_script(heap: Global, text: &[u8]) -> Result<Script, Failure> {
-    let mut draft = Draft { store: None, lines: Vec::new(heap) };
+    let mut draft = Draft {
+        store: None,
+        lines: Vec::new(heap),
+    };
     let mut number = 0usize;
     for line in lines_of(heap, text)? {
         number = number.saturating_add(1);

@@ -3,12 +3,11 @@
 ghost use mathlib.Core.Path.{_≡_};
 ghost use Rattle.std.specs.Options.{Cases as BySome};
 ghost use Rattle.plates.specs.Elements.{element-name};
-
-use crate::failures::at_line_end;
-use crate::failures::at_word;
 use crate::failures::Expected;
 use crate::failures::Failure;
 use crate::failures::FailureFromAlloc;
+use crate::failures::at_line_end;
+use crate::failures::at_word;
 use crate::numbers::number;
 use crate::settings::Settings;
 use plates::elements::Element;
@@ -122,7 +121,12 @@ fn take_prefix(heap: Global, words: &mut Words) -> Result<Vec<u8>, Failure> {
     }
 }
 
-fn option(heap: Global, words: &mut Words, name: &[u8], settings: &mut Settings) -> Result<(), Failure> {
+fn option(
+    heap: Global,
+    words: &mut Words,
+    name: &[u8],
+    settings: &mut Settings,
+) -> Result<(), Failure> {
     match name {
         b"prefix" => settings.prefix = Some(take_prefix(heap, words)?),
         b"preserve" => settings.preserve_text = true,

@@ -129,11 +129,19 @@ impl Reader {
 
 /// The words of a line.
 pub fn words_of(heap: Global, line: &[u8]) -> Result<Vec<Vec<u8>>, WordFault> {
-    let mut reader = Reader { words: Vec::new(heap), word: Vec::new(heap), stage: Stage::Between };
+    let mut reader = Reader {
+        words: Vec::new(heap),
+        word: Vec::new(heap),
+        stage: Stage::Between,
+    };
     for byte in line {
         reader.take(heap, *byte)?;
     }
     reader.end_line(heap)?;
-    let Reader { words, word: _, stage: _ } = reader;
+    let Reader {
+        words,
+        word: _,
+        stage: _,
+    } = reader;
     Ok(words)
 }

@@ -70,8 +70,8 @@ after-lost s [] l h = absurd (omega arith)
 after-lost s (b ∷ x) l h =
     ⊎-elim
     (λ (k : length (s .held) < s .capacity).
-      let t : PenState = record { held = s .held ++ b ∷ []; capacity = s .capacity; lost = s .lost } in
-      ap (λ z. after z x .lost) (step-fits s b k) ∙ after-lost t x (simp length-push (omega arith)) (simp length-push (omega arith)))
+    let t : PenState = record { held = s .held ++ b ∷ []; capacity = s .capacity; lost = s .lost } in
+    ap (λ z. after z x .lost) (step-fits s b k) ∙ after-lost t x (simp length-push (omega arith)) (simp length-push (omega arith)))
     (λ (k : s .capacity ≤ length (s .held)). ap (λ (z : PenState). z .lost) (after-full s b x k))
     (cases-lt (length (s .held)) (s .capacity))
 
@@ -98,37 +98,39 @@ pub settles : (h : List ℕ) (r : ℕ) (x : List ℕ) (n : ℕ) → length h ≤
 settles h r x n l =
     ⊎-elim
     (λ (k : r < length h + length x).
-      let t = after (pen h r false) x in
-      let b : leb (length (h ++ x) + n) r ≡ false = lt-leb _ _ (simp length-append (omega arith)) in
-      let a = after-lost (pen h r false) x l k in
-      let f : fits t n ≡ false = rw a in
-      record {
-        told = f ∙ sym b;
-        held = ap (λ z. cond z t (pen (take (length h) (t .held)) (t .capacity) false) .held) f ∙ after-front (pen h r false) x ∙ ap (λ z. cond z (h ++ x) h) (sym b);
-        capacity = ap (λ z. cond z t (pen (take (length h) (t .held)) (t .capacity) false) .capacity) f ∙ after-capacity (pen h r false) x;
-        clean = ap (λ z. cond z t (pen (take (length h) (t .held)) (t .capacity) false) .lost) f;
-        long = let p = after-held (pen h r false) x in rw (p .1) (simp length-append (omega arith))
-      })
+    let t = after (pen h r false) x in
+    let b : leb (length (h ++ x) + n) r ≡ false = lt-leb _ _ (simp length-append (omega arith)) in
+    let a = after-lost (pen h r false) x l k in
+    let f : fits t n ≡ false = rw a in
+    record {
+      told = f ∙ sym b;
+      held = ap (λ z. cond z t (pen (take (length h) (t .held)) (t .capacity) false) .held) f ∙ after-front (pen h r false) x ∙ ap (λ z. cond z (h ++ x) h) (sym b);
+      capacity = ap (λ z. cond z t (pen (take (length h) (t .held)) (t .capacity) false) .capacity) f ∙ after-capacity (pen h r false) x;
+      clean = ap (λ z. cond z t (pen (take (length h) (t .held)) (t .capacity) false) .lost) f;
+      long = let p = after-held (pen h r false) x in rw (p .1) (simp length-append (omega arith));
+    })
     (λ (k : length h + length x ≤ r).
-      let t = after (pen h r false) x in
-      let e = after-fits (pen h r false) x k in
-      let s = leb-sum (length h) r (length x) n k in
-      let f : fits t n ≡ leb (length (h ++ x) + n) r = rw e (simp length-append s) in
-      record {
-        told = f;
-        held = ap (λ z. cond z t (pen (take (length h) (t .held)) (t .capacity) false) .held) f ∙ pick (leb (length (h ++ x) + n) r) t _ _ _ (ap (λ (z : PenState). z .held) e) (after-front (pen h r false) x);
-        capacity = ap (λ z. cond z t (pen (take (length h) (t .held)) (t .capacity) false) .capacity) f ∙ same (leb (length (h ++ x) + n) r) t _ _ (after-capacity (pen h r false) x) (after-capacity (pen h r false) x);
-        clean = ap (λ z. cond z t (pen (take (length h) (t .held)) (t .capacity) false) .lost) f ∙ never (leb (length (h ++ x) + n) r) t _ (ap (λ (z : PenState). z .lost) e) refl;
-        long = let p = after-held (pen h r false) x in rw (p .1) (simp length-append (omega arith))
-      })
+    let t = after (pen h r false) x in
+    let e = after-fits (pen h r false) x k in
+    let s = leb-sum (length h) r (length x) n k in
+    let f : fits t n ≡ leb (length (h ++ x) + n) r = rw e (simp length-append s) in
+    record {
+      told = f;
+      held = ap (λ z. cond z t (pen (take (length h) (t .held)) (t .capacity) false) .held) f ∙ pick (leb (length (h ++ x) + n) r) t _ _ _ (ap (λ (z : PenState). z .held) e) (after-front (pen h r false) x);
+      capacity = ap (λ z. cond z t (pen (take (length h) (t .held)) (t .capacity) false) .capacity) f ∙ same (leb (length (h ++ x) + n) r) t _ _ (after-capacity (pen h r false) x) (after-capacity (pen h r false) x);
+      clean = ap (λ z. cond z t (pen (take (length h) (t .held)) (t .capacity) false) .lost) f ∙ never (leb (length (h ++ x) + n) r) t _ (ap (λ (z : PenState). z .lost) e) refl;
+      long = let p = after-held (pen h r false) x in rw (p .1) (simp length-append (omega arith));
+    })
     (cases-lt r (length h + length x))
   where
     pick : (b : Bool) (t u : PenState) (x y : List ℕ) → t .held ≡ x → u .held ≡ y → cond b t u .held ≡ cond b x y
     pick true t u x y e f = e
     pick false t u x y e f = f
+
     never : (b : Bool) (t u : PenState) → t .lost ≡ false → u .lost ≡ false → cond b t u .lost ≡ false
     never true t u e f = e
     never false t u e f = f
+
     same : (b : Bool) (t u : PenState) (r : ℕ) → t .capacity ≡ r → u .capacity ≡ r → cond b t u .capacity ≡ r
     same true t u r e f = e
     same false t u r e f = f
@@ -148,11 +150,11 @@ pub commits : (h : List ℕ) (r : ℕ) (x : List ℕ) (n m : ℕ) (b : Bool) (t 
 commits h r x n m b t u l e f k q =
     let s = settles h r x n l in
     let z : u ≡ settled (after (pen h r false) x) (length h) n =
-      q (rw (e, f) (s .long)) ∙ ap (λ v. settled v m n) e ∙ ap (λ v. settled (after (pen h r false) x) v n) f
+    q (rw (e, f) (s .long)) ∙ ap (λ v. settled v m n) e ∙ ap (λ v. settled (after (pen h r false) x) v n) f
     in
     record {
       told = k ∙ ap (λ v. fits v n) e ∙ s .told;
       held = ap (λ (v : PenState). v .held) z ∙ s .held;
       capacity = ap (λ (v : PenState). v .capacity) z ∙ s .capacity;
-      clean = ap (λ (v : PenState). v .lost) z ∙ s .clean
+      clean = ap (λ (v : PenState). v .lost) z ∙ s .clean;
     }

@@ -97,9 +97,11 @@ value-shown q c h =
     tab : (q : Quote) → Shown (escape-value q) (InValue q) 9
     tab Double = as-reference (decimal-ref (57 ∷ [])) ((tt, tt), tt) refl (λ r. refl)
     tab Single = as-reference (decimal-ref (57 ∷ [])) ((tt, tt), tt) refl (λ r. refl)
+
     feed : (q : Quote) → Shown (escape-value q) (InValue q) 10
     feed Double = as-reference (decimal-ref (49 ∷ 48 ∷ [])) ((tt, (tt, tt)), tt) refl (λ r. refl)
     feed Single = as-reference (decimal-ref (49 ∷ 48 ∷ [])) ((tt, (tt, tt)), tt) refl (λ r. refl)
+
     return : (q : Quote) → Shown (escape-value q) (InValue q) 13
     return Double = as-reference (decimal-ref (49 ∷ 51 ∷ [])) ((tt, (tt, tt)), tt) refl (λ r. refl)
     return Single = as-reference (decimal-ref (49 ∷ 51 ∷ [])) ((tt, (tt, tt)), tt) refl (λ r. refl)

@@ -40,8 +40,10 @@ encode-high c e = rw e (go (ltb c 2048) (ltb c 65536))
   where
     lead : (k : ℕ) (n : ℕ) → 128 ≤ k → T (high (k + n))
     lead k n h = le→leb 128 (k + n) (omega arith)
+
     more : (n : ℕ) → T (high (next n))
     more n = le→leb 128 (next n) (omega arith)
+
     go : (x y : Bool) → ZeroOrMore high (cond x ((192 + c / 64) ∷ next c ∷ []) (cond y ((224 + c / 4096) ∷ next (c / 64) ∷ next c ∷ []) ((240 + c / 262144) ∷ next (c / 4096) ∷ next (c / 64) ∷ next c ∷ [])))
     go true y = (lead 192 (c / 64) (omega arith), (more c, tt))
     go false true = (lead 224 (c / 4096) (omega arith), (more (c / 64), (more c, tt)))
@@ -221,5 +223,5 @@ pub from-bytes : FromBytes
 from-bytes =
     record {
       attribute = λ q name bytes a u. ap₂ (attribute q) (encodes-ascii name a) (encodes-decodes bytes u);
-      text = λ bytes more u. characters-encoded (decodes bytes) more ∙ ap (λ z. characters z (encoded more)) (encodes-decodes bytes u)
+      text = λ bytes more u. characters-encoded (decodes bytes) more ∙ ap (λ z. characters z (encoded more)) (encodes-decodes bytes u);
     }

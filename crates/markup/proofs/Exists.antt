@@ -111,7 +111,7 @@ made-character c m a (as-itself h e) =
       same = λ rest. pushed-yield c (a .content) rest ∙ ap (λ x. c ∷ x) (a .same rest) ∙ sym (e (render m rest));
       stands = pushed-stands c (a .content) h (a .plainly) (a .stands);
       means = pushed-meaning c (a .content) ∙ ap (λ x. character c x) (a .means);
-      plainly = subst NoGreater (sym (pushed-front c (a .content))) (h .1, a .plainly)
+      plainly = subst NoGreater (sym (pushed-front c (a .content))) (h .1, a .plainly);
     }
 made-character c m a (as-reference r h v e) =
     record {
@@ -119,7 +119,7 @@ made-character c m a (as-reference r h v e) =
       same = λ rest. ap (reference-then r) (a .same rest) ∙ sym (e (render m rest));
       stands = (no-data, h, a .stands);
       means = ap₂ character v (a .means);
-      plainly = tt
+      plainly = tt;
     }
 
 -- a value
@@ -135,14 +135,14 @@ made-piece q c v (as-itself h e) a =
       pieces = literal c ∷ a .pieces;
       same = λ rest. ap (λ x. c ∷ x) (a .same rest) ∙ sym (e _);
       stands = (h .0, a .stands);
-      means = ap₂ _∷_ (h .1) (a .means)
+      means = ap₂ _∷_ (h .1) (a .means);
     }
 made-piece q c v (as-reference r h x e) a =
     record {
       pieces = referring r ∷ a .pieces;
       same = λ rest. ap (reference-then r) (a .same rest) ∙ sym (e _);
       stands = (h, a .stands);
-      means = ap₂ _∷_ x (a .means)
+      means = ap₂ _∷_ x (a .means);
     }
 
 made-value : (q : Quote) (v : List ℕ) → ZeroOrMore is-char v → MadeValue q v
@@ -168,7 +168,7 @@ made-attributes (p ∷ ps) h =
       same = λ rest. ap (λ x. 32 ∷ (p .name ++ (61 ∷ quote-mark q ∷ x))) (v .same _ ∙ ap (λ x. value-then q (p .value) (quote-mark q ∷ x)) (a .same rest));
       stands = ((tt, tt), h .0, tt, tt, v .stands, a .stands);
       means = ap₂ (λ x y. (p .name, x) ∷ y) (v .means) (a .means);
-      named = ap (λ x. p .name ∷ x) (a .named)
+      named = ap (λ x. p .name ∷ x) (a .named);
     }
 
 made-element : (n : List ℕ) (ps : List Attribute) (k m : Written) → Name n → MadeAttributes ps → Distinct (attribute-names ps) → Made k → Made m → Made (element n ps k m)
@@ -176,12 +176,15 @@ made-element n ps k m h u q a b = go (is-empty k) refl
   where
     tag : Tag
     tag = record { name = n; attributes = u .all; space = [] }
+
     distinct : Distinct (specified-names (u .all))
     distinct = subst Distinct (sym (u .named)) q
+
     none : (k : Written) → is-empty k ≡ true → empty ≡ plain k
     none empty e = refl
     none (character c k) e = let z : _≡_ {A = ℕ} 0 1 = cc in absurd (omega arith)
     none (element c x k k′) e = let z : _≡_ {A = ℕ} 0 1 = cc in absurd (omega arith)
+
     go : (b : Bool) → is-empty k ≡ b → Made (element n ps k m)
     go true e =
         record {
@@ -189,7 +192,7 @@ made-element n ps k m h u q a b = go (is-empty k) refl
           same = λ rest. ap (λ x. 60 ∷ (n ++ x)) (u .same _ ∙ rw (e, b .same rest));
           stands = (no-data, (h, u .stands, distinct, tt), b .stands);
           means = cc (b .means, u .means, none k e);
-          plainly = tt
+          plainly = tt;
         }
     go false e =
         record {
@@ -197,7 +200,7 @@ made-element n ps k m h u q a b = go (is-empty k) refl
           same = λ rest. ap (λ x. 60 ∷ (n ++ x)) (u .same _ ∙ rw (e, b .same rest, a .same (60 ∷ 47 ∷ (n ++ (62 ∷ render m rest)))));
           stands = (no-data, (h, u .stands, distinct, tt), a .stands, (refl, tt), b .stands);
           means = cc (b .means, a .means, u .means);
-          plainly = tt
+          plainly = tt;
         }
 
 pub made : (m : Written) → WellFormed m → Made m

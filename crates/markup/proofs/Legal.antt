@@ -48,7 +48,7 @@ legal-steps =
       given = λ attributes outside e around a d h. (h .0, ((h .1 .0 .0, legal-join (e .attributes) attributes (h .1 .0 .1) a, d, h .1 .0 .3), h .1 .1));
       added = λ content u w h. added-legal content (u .outside) (u .stack) w (h .0) (h .1);
       ended = λ u h. ended-legal (u .outside) (u .stack) (h .0) (h .1);
-      finished = finished-legal
+      finished = finished-legal;
     }
 
 -- Bytes in place of characters
@@ -78,7 +78,7 @@ outer-encoded (e ∷ around) =
     let start = start-tag (e .name) (e .attributes) in
     let inside = 62 ∷ render (e .children) [] in
     ap₂ (λ x y. x ++ y) (outer-encoded around)
-      (ap₂ (λ x y. x ++ y) (start-tag-encoded (e .name) (e .attributes)) (greater-encoded (e .children)) ∙ sym (encodes-append start inside))
+    (ap₂ (λ x y. x ++ y) (start-tag-encoded (e .name) (e .attributes)) (greater-encoded (e .children)) ∙ sym (encodes-append start inside))
     ∙ sym (encodes-append (outer around) (start ++ inside))
 
 open-encoded : (stack : List OpenElement) → open-so-far (map encoded-open stack) ≡ encodes (open-so-far stack)
@@ -87,7 +87,7 @@ open-encoded (e ∷ around) =
     let start = start-tag (e .name) (e .attributes) in
     let inside = content-so-far (e .children) in
     ap₂ (λ x y. x ++ y) (outer-encoded around)
-      (ap₂ (λ x y. x ++ y) (start-tag-encoded (e .name) (e .attributes)) (content-encoded (e .children)) ∙ sym (encodes-append start inside))
+    (ap₂ (λ x y. x ++ y) (start-tag-encoded (e .name) (e .attributes)) (content-encoded (e .children)) ∙ sym (encodes-append start inside))
     ∙ sym (encodes-append (outer around) (start ++ inside))
 
 bytes-encoded : (u : Unfinished) → so-far (encoded-unfinished u) ≡ encodes (so-far u)
@@ -162,7 +162,7 @@ encoded-so-far =
       begun = λ name attributes u. refl;
       given = λ given u. ap (unfinished (encoded (u .outside))) (given-encoded given (u .stack));
       added = λ content u. added-encoded content (u .outside) (u .stack);
-      ended = λ u. ended-encoded (u .outside) (u .stack)
+      ended = λ u. ended-encoded (u .outside) (u .stack);
     }
 
 -- What the bytes read as
@@ -170,12 +170,12 @@ encoded-so-far =
 reads-back-characters : (u : Unfinished) → Legal u → ReadsOnlyAs (encodes (so-far u) ++ encodes (owed u)) (plain (finished u))
 reads-back-characters u h =
     subst (λ z. ReadsOnlyAs z (plain (finished u)))
-      (ap encodes (sym (whole-of u)) ∙ encodes-append (so-far u) (owed u))
-      (reads-back (finished u) (finished-legal u h))
+    (ap encodes (sym (whole-of u)) ∙ encodes-append (so-far u) (owed u))
+    (reads-back (finished u) (finished-legal u h))
 
 pub reads-back-unfinished : ReadsBackUnfinished
 reads-back-unfinished =
     record {
       characters = reads-back-characters;
-      bytes = λ u h. subst (λ z. ReadsOnlyAs z (plain (finished u))) (ap₂ (λ x y. x ++ y) (sym (bytes-encoded u)) (sym (owed-encoded u))) (reads-back-characters u h)
+      bytes = λ u h. subst (λ z. ReadsOnlyAs z (plain (finished u))) (ap₂ (λ x y. x ++ y) (sym (bytes-encoded u)) (sym (owed-encoded u))) (reads-back-characters u h);
     }

@@ -42,14 +42,15 @@ in-one : (c : ℕ) (p : ℕ × ℕ) (qs : List (ℕ × ℕ)) → T (inside-one p
 in-one c p [] h k = h
 in-one c p (q ∷ qs) h k =
     elim (or-T _ _ h) [
-      inl z ↦ (let (a, b) = both (leb (q .0) (p .0)) (leb (p .1) (q .1)) z in
-        let (d, e) = both (leb (p .0) c) (leb c (p .1)) k in
-        let a′ = leb→le (q .0) (p .0) a in
-        let b′ = leb→le (p .1) (q .1) b in
-        let d′ = leb→le (p .0) c d in
-        let e′ = leb→le c (p .1) e in
-        or-first _ _ (and-T _ _ (le→leb (q .0) c (omega arith)) (le→leb c (q .1) (omega arith))))
-    | inr z ↦ or-second _ _ (in-one c p qs z k) ]
+      | inl z ↦ (let (a, b) = both (leb (q .0) (p .0)) (leb (p .1) (q .1)) z in
+          let (d, e) = both (leb (p .0) c) (leb c (p .1)) k in
+          let a′ = leb→le (q .0) (p .0) a in
+          let b′ = leb→le (p .1) (q .1) b in
+          let d′ = leb→le (p .0) c d in
+          let e′ = leb→le c (p .1) e in
+          or-first _ _ (and-T _ _ (le→leb (q .0) c (omega arith)) (le→leb c (q .1) (omega arith))))
+      | inr z ↦ or-second _ _ (in-one c p qs z k)
+    ]
 
 in-all : (c : ℕ) (ps qs : List (ℕ × ℕ)) → T (all-inside ps qs) → T (in-ranges ps c) → T (in-ranges qs c)
 in-all c [] qs h k = elim k [ ]

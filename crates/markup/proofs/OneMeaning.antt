@@ -260,7 +260,7 @@ one (tagged d t c y more) = whole (tagged d t c y more) (one-tagged d t c y more
 pub one-meaning : OneMeaning
 one-meaning bytes m n f g =
     let e : f .text ≡ g .text =
-      sym (decodes-encodes (f .text) (f .unicode)) ∙ ap decodes (f .utf8 ∙ sym (g .utf8)) ∙ decodes-encodes (g .text) (g .unicode)
+    sym (decodes-encodes (f .text) (f .unicode)) ∙ ap decodes (f .utf8 ∙ sym (g .utf8)) ∙ decodes-encodes (g .text) (g .unicode)
     in
     let l : yield (f .content) [] ≡ yield (g .content) [] = f .spells ∙ ap (normal-line-ends false) e ∙ sym (g .spells) in
     sym (f .means) ∙ one (f .content) (g .content) [] [] (f .stands) (g .stands) (inl refl) (inl refl) l .0 ∙ g .means

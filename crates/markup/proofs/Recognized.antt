@@ -133,47 +133,53 @@ Runs t = (ns : Names) (rest : List ℕ) → ContentStands t → (b : Brackets) �
 runs : (t : Content) → Runs t
 runs (char-data d) ns rest h = text-runs ns d rest none (h .0) (h .1)
 runs (reference d r more) ns rest h =
-    let i = runs more ns rest (h .2) in
-    ( i .0
-    , ap (λ z. run ns (text none) (d ++ z)) (reference-split r (yield more rest))
-      ∙ data-then-ampersand ns d (after-ampersand r (yield more rest)) (h .0)
-      ∙ reference-runs ns (text none) r (yield more rest) (h .1)
-      ∙ i .1 )
+    let i = runs more ns rest (h .2) in (
+      i .0,
+      ap (λ z. run ns (text none) (d ++ z)) (reference-split r (yield more rest))
+          ∙ data-then-ampersand ns d (after-ampersand r (yield more rest)) (h .0)
+          ∙ reference-runs ns (text none) r (yield more rest) (h .1)
+          ∙ i .1,
+    )
 runs (cdata-section d x more) ns rest h =
-    let i = runs more ns rest (h .2) in
-    ( i .0
-    , data-then-less ns d (33 ∷ 91 ∷ 67 ∷ 68 ∷ 65 ∷ 84 ∷ 65 ∷ 91 ∷ (x ++ (93 ∷ 93 ∷ 62 ∷ yield more rest))) (h .0)
-      ∙ section-runs ns x (yield more rest) none (h .1 .0) (h .1 .1)
-      ∙ i .1 )
+    let i = runs more ns rest (h .2) in (
+      i .0,
+      data-then-less ns d (33 ∷ 91 ∷ 67 ∷ 68 ∷ 65 ∷ 84 ∷ 65 ∷ 91 ∷ (x ++ (93 ∷ 93 ∷ 62 ∷ yield more rest))) (h .0)
+          ∙ section-runs ns x (yield more rest) none (h .1 .0) (h .1 .1)
+          ∙ i .1,
+    )
 runs (instruction d p more) ns rest h =
-    let i = runs more ns rest (h .3) in
-    ( i .0
-    , data-then-less ns d (63 ∷ (p .target ++ (p .space ++ (p .text ++ (63 ∷ 62 ∷ yield more rest))))) (h .0)
-      ∙ pi-runs ns p (yield more rest) (h .1) (h .2)
-      ∙ i .1 )
+    let i = runs more ns rest (h .3) in (
+      i .0,
+      data-then-less ns d (63 ∷ (p .target ++ (p .space ++ (p .text ++ (63 ∷ 62 ∷ yield more rest))))) (h .0)
+          ∙ pi-runs ns p (yield more rest) (h .1) (h .2)
+          ∙ i .1,
+    )
 runs (comment d x more) ns rest h =
-    let i = runs more ns rest (h .2) in
-    ( i .0
-    , data-then-less ns d (33 ∷ 45 ∷ 45 ∷ (x ++ (45 ∷ 45 ∷ 62 ∷ yield more rest))) (h .0)
-      ∙ comment-runs ns x (yield more rest) false (h .1 .0) (h .1 .1)
-      ∙ i .1 )
+    let i = runs more ns rest (h .2) in (
+      i .0,
+      data-then-less ns d (33 ∷ 45 ∷ 45 ∷ (x ++ (45 ∷ 45 ∷ 62 ∷ yield more rest))) (h .0)
+          ∙ comment-runs ns x (yield more rest) false (h .1 .0) (h .1 .1)
+          ∙ i .1,
+    )
 runs (empty-tag d t more) ns rest h =
-    let i = runs more ns rest (h .2) in
-    ( i .0
-    , data-then-less ns d (t .name ++ specifications-then (t .attributes) (t .space ++ (47 ∷ 62 ∷ yield more rest))) (h .0)
-      ∙ empty-tag-runs ns t (yield more rest) (h .1)
-      ∙ i .1 )
+    let i = runs more ns rest (h .2) in (
+      i .0,
+      data-then-less ns d (t .name ++ specifications-then (t .attributes) (t .space ++ (47 ∷ 62 ∷ yield more rest))) (h .0)
+          ∙ empty-tag-runs ns t (yield more rest) (h .1)
+          ∙ i .1,
+    )
 runs (tagged d t children z more) ns rest h =
     let end = end-tag-then z (yield more rest) in
     let k = runs children (t .name ∷ ns) end (h .2) in
-    let i = runs more ns rest (h .4) in
-    ( i .0
-    , data-then-less ns d (t .name ++ specifications-then (t .attributes) (t .space ++ (62 ∷ yield children end))) (h .0)
-      ∙ start-tag-runs ns t (yield children end) (h .1)
-      ∙ k .1
-      ∙ from (k .0) (t .name ∷ ns) (47 ∷ (z .name ++ (z .space ++ (62 ∷ yield more rest))))
-      ∙ end-tag-runs ns (t .name) z (yield more rest) (h .1 .0) (h .3)
-      ∙ i .1 )
+    let i = runs more ns rest (h .4) in (
+      i .0,
+      data-then-less ns d (t .name ++ specifications-then (t .attributes) (t .space ++ (62 ∷ yield children end))) (h .0)
+          ∙ start-tag-runs ns t (yield children end) (h .1)
+          ∙ k .1
+          ∙ from (k .0) (t .name ∷ ns) (47 ∷ (z .name ++ (z .space ++ (62 ∷ yield more rest))))
+          ∙ end-tag-runs ns (t .name) z (yield more rest) (h .1 .0) (h .3)
+          ∙ i .1,
+    )
   where
     from : (b : Brackets) (ns : Names) (xs : List ℕ) → run ns (text b) (60 ∷ xs) ≡ run ns less xs
     from none ns xs = refl
@@ -188,7 +194,7 @@ plausible-reading bytes m g =
     let same : T (sameBytes (encodes (decodes bytes)) bytes) = subst (λ z. T (sameBytes z bytes)) (sym (g .utf8) ∙ ap encodes (sym d)) (same-refl bytes) in
     let i = runs (g .content) [] [] (g .stands) in
     let lives : run [] (text none) (normal-line-ends false (decodes bytes)) ≡ true =
-      ap (λ z. run [] (text none) (normal-line-ends false z)) d ∙ ap (run [] (text none)) (sym (g .spells)) ∙ i .1 ∙ final (i .0)
+    ap (λ z. run [] (text none) (normal-line-ends false z)) d ∙ ap (run [] (text none)) (sym (g .spells)) ∙ i .1 ∙ final (i .0)
     in
     true-of (plausible bytes) (and-T (scalars (decodes bytes)) _ (T-of (ap scalars d ∙ g .unicode)) (and-T (sameBytes (encodes (decodes bytes)) bytes) _ same (T-of lives)))
   where

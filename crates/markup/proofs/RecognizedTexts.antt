@@ -71,18 +71,22 @@ text-step ns c d rest b h w ih = test P c 93 (bracket b) (λ e1. test P c 62 (gr
   where
     P : ℕ → Type 0
     P v = T (is-data v) → NoEnd (before b (v ∷ d)) → TextRuns ns b (v ∷ d) rest
+
     bracket : (b : Brackets) → T (is-data 93) → NoEnd (before b (93 ∷ d)) → TextRuns ns b (93 ∷ d) rest
     bracket none k v = ih one v
     bracket one k v = ih two v
     bracket two k v = ih two (without-tail (codes "]]>") 93 (93 ∷ 93 ∷ d) v)
+
     greater : (b : Brackets) → T (is-data 62) → NoEnd (before b (62 ∷ d)) → TextRuns ns b (62 ∷ d) rest
     greater none k v = ih none (without-tail (codes "]]>") 62 d v)
     greater one k v = ih none (without-tail (codes "]]>") 62 d (without-tail (codes "]]>") 93 (62 ∷ d) v))
     greater two k v = absurd (v [] d refl)
+
     plain-step : (b : Brackets) → eqb c 93 ≡ false → eqb c 62 ≡ false → data-step ns b c ≡ (ns, text none)
     plain-step none e1 e2 = simp (e1, e2)
     plain-step one e1 e2 = simp (e1, e2)
     plain-step two e1 e2 = simp (e1, e2)
+
     other : (b : Brackets) → eqb c 93 ≡ false → eqb c 62 ≡ false → T (is-data c) → NoEnd (before b (c ∷ d)) → TextRuns ns b (c ∷ d) rest
     other b e1 e2 k v =
         let i = ih none (without-tail (codes "]]>") c d (no-end-behind b (c ∷ d) v)) in
@@ -155,27 +159,31 @@ reference-runs ns m (hexadecimal-ref (d ∷ ds)) rest h =
 -- Sections, comments, instructions
 
 section-step :
-  (ns : Names) (c : ℕ) (d rest : List ℕ) (b : Brackets) → T (is-char c) → NoEnd (before b (c ∷ d))
-  → ((b : Brackets) → NoEnd (before b d) → run ns (section b) (d ++ rest) ≡ run ns (section none) rest)
-  → run ns (section b) (c ∷ (d ++ rest)) ≡ run ns (section none) rest
+    (ns : Names) (c : ℕ) (d rest : List ℕ) (b : Brackets) → T (is-char c) → NoEnd (before b (c ∷ d))
+    → ((b : Brackets) → NoEnd (before b d) → run ns (section b) (d ++ rest) ≡ run ns (section none) rest)
+    → run ns (section b) (c ∷ (d ++ rest)) ≡ run ns (section none) rest
 section-step ns c d rest b h w ih = test P c 93 (bracket b) (λ e1. test P c 62 (greater b) (λ e2 k v. other b e1 e2 k v)) h w
   where
     P : ℕ → Type 0
     P v = T (is-char v) → NoEnd (before b (v ∷ d)) → run ns (section b) (v ∷ (d ++ rest)) ≡ run ns (section none) rest
+
     bracket : (b : Brackets) → T (is-char 93) → NoEnd (before b (93 ∷ d)) → run ns (section b) (93 ∷ (d ++ rest)) ≡ run ns (section none) rest
     bracket none k v = ih one v
     bracket one k v = ih two v
     bracket two k v = ih two (without-tail (codes "]]>") 93 (93 ∷ 93 ∷ d) v)
+
     greater : (b : Brackets) → T (is-char 62) → NoEnd (before b (62 ∷ d)) → run ns (section b) (62 ∷ (d ++ rest)) ≡ run ns (section none) rest
     greater none k v = ih none (without-tail (codes "]]>") 62 d v)
     greater one k v = ih none (without-tail (codes "]]>") 62 d (without-tail (codes "]]>") 93 (62 ∷ d) v))
     greater two k v = absurd (v [] d refl)
+
     plain-step : (b : Brackets) → eqb c 93 ≡ false → eqb c 62 ≡ false → T (is-char c) → step ns (section b) c ≡ (ns, section none)
     plain-step none e1 e2 k = ap (λ x. cond x (ns, section one) (cond (is-char c) (ns, section none) (ns, dead))) e1 ∙ cond-true (is-char c) _ _ k
     plain-step one e1 e2 k = ap (λ x. cond x (ns, section two) (cond (is-char c) (ns, section none) (ns, dead))) e1 ∙ cond-true (is-char c) _ _ k
     plain-step two e1 e2 k =
         ap (λ x. cond x (ns, section two) (cond (eqb c 62) (ns, text none) (cond (is-char c) (ns, section none) (ns, dead)))) e1
         ∙ ap (λ x. cond x (ns, text none) (cond (is-char c) (ns, section none) (ns, dead))) e2 ∙ cond-true (is-char c) _ _ k
+
     other : (b : Brackets) → eqb c 93 ≡ false → eqb c 62 ≡ false → T (is-char c) → NoEnd (before b (c ∷ d)) → run ns (section b) (c ∷ (d ++ rest)) ≡ run ns (section none) rest
     other b e1 e2 k v = moves ns (section b) c (d ++ rest) (plain-step b e1 e2 k) ∙ ih none (without-tail (codes "]]>") c d (no-end-behind b (c ∷ d) v))
 
@@ -195,16 +203,18 @@ hyphen-before false d = d
 hyphen-before true d = 45 ∷ d
 
 comment-step :
-  (ns : Names) (c : ℕ) (d rest : List ℕ) (b : Bool) → T (is-char c) → Without (codes "--") (hyphen-before b (c ∷ (d ++ (45 ∷ []))))
-  → ((b : Bool) → Without (codes "--") (hyphen-before b (d ++ (45 ∷ []))) → run ns (comment-mode b) (d ++ rest) ≡ run ns in-comment rest)
-  → run ns (comment-mode b) (c ∷ (d ++ rest)) ≡ run ns in-comment rest
+    (ns : Names) (c : ℕ) (d rest : List ℕ) (b : Bool) → T (is-char c) → Without (codes "--") (hyphen-before b (c ∷ (d ++ (45 ∷ []))))
+    → ((b : Bool) → Without (codes "--") (hyphen-before b (d ++ (45 ∷ []))) → run ns (comment-mode b) (d ++ rest) ≡ run ns in-comment rest)
+    → run ns (comment-mode b) (c ∷ (d ++ rest)) ≡ run ns in-comment rest
 comment-step ns c d rest b h w ih = test P c 45 (hyphen b) (λ e k v. other b e k v) h w
   where
     P : ℕ → Type 0
     P v = T (is-char v) → Without (codes "--") (hyphen-before b (v ∷ (d ++ (45 ∷ [])))) → run ns (comment-mode b) (v ∷ (d ++ rest)) ≡ run ns in-comment rest
+
     hyphen : (b : Bool) → T (is-char 45) → Without (codes "--") (hyphen-before b (45 ∷ (d ++ (45 ∷ [])))) → run ns (comment-mode b) (45 ∷ (d ++ rest)) ≡ run ns in-comment rest
     hyphen false k v = ih true v
     hyphen true k v = absurd (v [] (d ++ (45 ∷ [])) refl)
+
     other : (b : Bool) → eqb c 45 ≡ false → T (is-char c) → Without (codes "--") (hyphen-before b (c ∷ (d ++ (45 ∷ [])))) → run ns (comment-mode b) (c ∷ (d ++ rest)) ≡ run ns in-comment rest
     other false e k v =
         moves ns in-comment c (d ++ rest) (ap (λ x. cond x (ns, after-hyphen) (cond (is-char c) (ns, in-comment) (ns, dead))) e ∙ cond-true (is-char c) _ _ k)
@@ -228,27 +238,30 @@ question-before false d = d
 question-before true d = 63 ∷ d
 
 instruction-step :
-  (ns : Names) (c : ℕ) (d rest : List ℕ) (b : Bool) → T (is-char c) → Without (codes "?>") (question-before b (c ∷ d))
-  → ((b : Bool) → Without (codes "?>") (question-before b d) → run ns (instruction-mode b) (d ++ rest) ≡ run ns in-instruction rest)
-  → run ns (instruction-mode b) (c ∷ (d ++ rest)) ≡ run ns in-instruction rest
+    (ns : Names) (c : ℕ) (d rest : List ℕ) (b : Bool) → T (is-char c) → Without (codes "?>") (question-before b (c ∷ d))
+    → ((b : Bool) → Without (codes "?>") (question-before b d) → run ns (instruction-mode b) (d ++ rest) ≡ run ns in-instruction rest)
+    → run ns (instruction-mode b) (c ∷ (d ++ rest)) ≡ run ns in-instruction rest
 instruction-step ns c d rest b h w ih = test P c 63 (question b) (λ e1. test P c 62 (greater b) (λ e2 k v. other b e1 e2 k v)) h w
   where
     P : ℕ → Type 0
     P v = T (is-char v) → Without (codes "?>") (question-before b (v ∷ d)) → run ns (instruction-mode b) (v ∷ (d ++ rest)) ≡ run ns in-instruction rest
+
     question : (b : Bool) → T (is-char 63) → Without (codes "?>") (question-before b (63 ∷ d)) → run ns (instruction-mode b) (63 ∷ (d ++ rest)) ≡ run ns in-instruction rest
     question false k v = ih true v
     question true k v = ih true (without-tail (codes "?>") 63 (63 ∷ d) v)
+
     greater : (b : Bool) → T (is-char 62) → Without (codes "?>") (question-before b (62 ∷ d)) → run ns (instruction-mode b) (62 ∷ (d ++ rest)) ≡ run ns in-instruction rest
     greater false k v = ih false (without-tail (codes "?>") 62 d v)
     greater true k v = absurd (v [] d refl)
+
     other : (b : Bool) → eqb c 63 ≡ false → eqb c 62 ≡ false → T (is-char c) → Without (codes "?>") (question-before b (c ∷ d)) → run ns (instruction-mode b) (c ∷ (d ++ rest)) ≡ run ns in-instruction rest
     other false e1 e2 k v =
         moves ns in-instruction c (d ++ rest) (ap (λ x. cond x (ns, after-question) (cond (is-char c) (ns, in-instruction) (ns, dead))) e1 ∙ cond-true (is-char c) _ _ k)
         ∙ ih false (without-tail (codes "?>") c d v)
     other true e1 e2 k v =
         moves ns after-question c (d ++ rest)
-          (ap (λ x. cond x (ns, text none) (cond (eqb c 63) (ns, after-question) (cond (is-char c) (ns, in-instruction) (ns, dead)))) e2
-           ∙ ap (λ x. cond x (ns, after-question) (cond (is-char c) (ns, in-instruction) (ns, dead))) e1 ∙ cond-true (is-char c) _ _ k)
+        (ap (λ x. cond x (ns, text none) (cond (eqb c 63) (ns, after-question) (cond (is-char c) (ns, in-instruction) (ns, dead)))) e2
+        ∙ ap (λ x. cond x (ns, after-question) (cond (is-char c) (ns, in-instruction) (ns, dead))) e1 ∙ cond-true (is-char c) _ _ k)
         ∙ ih false (without-tail (codes "?>") c d (without-tail (codes "?>") 63 (c ∷ d) v))
 
 pub instruction-runs : (ns : Names) (d rest : List ℕ) (b : Bool) → ZeroOrMore is-char d → Without (codes "?>") (question-before b d) → run ns (instruction-mode b) (d ++ (63 ∷ 62 ∷ rest)) ≡ run ns in-instruction (63 ∷ 62 ∷ rest)
@@ -269,7 +282,7 @@ pi-runs ns p rest ht hx =
         ∙ moves ns (target (p .target)) 63 (62 ∷ rest) (cond-true (is-target (p .target)) _ _ (target-good (p .target) ht))
     go (x ∷ s) d h =
         moves ns (target (p .target)) x (s ++ (d ++ (63 ∷ 62 ∷ rest)))
-          (each-space (λ v. step ns (target (p .target)) v ≡ cond (is-target (p .target)) (ns, in-instruction) (ns, dead)) refl refl refl refl x (h .0 .0)
-           ∙ cond-true (is-target (p .target)) _ _ (target-good (p .target) ht))
+        (each-space (λ v. step ns (target (p .target)) v ≡ cond (is-target (p .target)) (ns, in-instruction) (ns, dead)) refl refl refl refl x (h .0 .0)
+        ∙ cond-true (is-target (p .target)) _ _ (target-good (p .target) ht))
         ∙ stays is-space ns in-instruction (λ c k. each-space (λ v. step ns in-instruction v ≡ (ns, in-instruction)) refl refl refl refl c k) s (d ++ (63 ∷ 62 ∷ rest)) (h .0 .1)
         ∙ instruction-runs ns d rest false (h .1) (h .2)

@@ -72,7 +72,7 @@ data-step names b c = cond (eqb c 93) (at names (text (one-more b))) (cond (eqb 
 abbrev pub tag-ends : List (List ℕ) → List ℕ → List (List ℕ) → ℕ → State
 tag-ends names name given c =
     cond (eqb c 62) (cond (are-distinct given) (at (name ∷ names) (text none)) (at names dead))
-      (cond (eqb c 47) (cond (are-distinct given) (at names (expect (62 ∷ []) (text none))) (at names dead)) (at names dead))
+    (cond (eqb c 47) (cond (are-distinct given) (at names (expect (62 ∷ []) (text none))) (at names dead)) (at names dead))
 
 abbrev pub after-attribute : List (List ℕ) → List ℕ → List (List ℕ) → ℕ → State
 after-attribute names name given c = cond (is-space c) (at names (in-tag name given)) (tag-ends names name given c)
@@ -98,7 +98,7 @@ abbrev pub step : List (List ℕ) → Mode → ℕ → State
 step names (text b) c = cond (is-data c) (data-step names b c) (cond (eqb c 60) (at names less) (cond (eqb c 38) (at names (ampersand (text none))) (at names dead)))
 step names less c =
     cond (is-name-start c) (at names (tag-name (c ∷ [])))
-      (cond (eqb c 47) (at names (end-name [])) (cond (eqb c 33) (at names bang) (cond (eqb c 63) (at names (target [])) (at names dead))))
+    (cond (eqb c 47) (at names (end-name [])) (cond (eqb c 33) (at names bang) (cond (eqb c 63) (at names (target [])) (at names dead))))
 step names bang c = cond (eqb c 45) (at names (expect (codes "-") in-comment)) (cond (eqb c 91) (at names (expect (codes "CDATA[") (section none))) (at names dead))
 step names (expect [] mode) c = at names dead
 step names (expect (x ∷ []) mode) c = cond (eqb c x) (at names mode) (at names dead)
@@ -110,8 +110,8 @@ step names (section one) c = cond (eqb c 93) (at names (section two)) (cond (is-
 step names (section two) c = cond (eqb c 93) (at names (section two)) (cond (eqb c 62) (at names (text none)) (cond (is-char c) (at names (section none)) (at names dead)))
 step names (target name) c =
     cond (is-name-char c) (at names (target (name ++ c ∷ [])))
-      (cond (is-space c) (cond (is-target name) (at names in-instruction) (at names dead))
-        (cond (eqb c 63) (cond (is-target name) (at names (expect (62 ∷ []) (text none))) (at names dead)) (at names dead)))
+    (cond (is-space c) (cond (is-target name) (at names in-instruction) (at names dead))
+    (cond (eqb c 63) (cond (is-target name) (at names (expect (62 ∷ []) (text none))) (at names dead)) (at names dead)))
 step names in-instruction c = cond (eqb c 63) (at names after-question) (cond (is-char c) (at names in-instruction) (at names dead))
 step names after-question c = cond (eqb c 62) (at names (text none)) (cond (eqb c 63) (at names after-question) (cond (is-char c) (at names in-instruction) (at names dead)))
 step names (tag-name name) c = cond (is-name-char c) (at names (tag-name (name ++ c ∷ []))) (after-attribute names name [] c)
@@ -122,7 +122,7 @@ step names (after-equals name given) c =
     cond (is-space c) (at names (after-equals name given)) (cond (eqb c 34) (at names (in-value 34 name given)) (cond (eqb c 39) (at names (in-value 39 name given)) (at names dead)))
 step names (in-value quote name given) c =
     cond (is-data-but quote c) (at names (in-value quote name given))
-      (cond (eqb c quote) (at names (after-value name given)) (cond (eqb c 38) (at names (ampersand (in-value quote name given))) (at names dead)))
+    (cond (eqb c quote) (at names (after-value name given)) (cond (eqb c 38) (at names (ampersand (in-value quote name given))) (at names dead)))
 step names (after-value name given) c = after-attribute names name given c
 step names (end-name name) c = cond (is-name-char c) (at names (end-name (name ++ c ∷ []))) (end-step names name c)
 step names (after-end-name name) c = end-step names name c

@@ -25,11 +25,11 @@ render-rest (element n ps k m) rest =
     go : ((x : List ℕ) → render k x ≡ render k [] ++ x) → (b : Bool) (z : List ℕ) → tag-end b (z ++ rest) (render k (60 ∷ 47 ∷ (n ++ 62 ∷ (z ++ rest)))) ≡ tag-end b z (render k (60 ∷ 47 ∷ (n ++ 62 ∷ z))) ++ rest
     go more true z = refl
     go more false z =
-      ap (λ y. 62 ∷ y)
+        ap (λ y. 62 ∷ y)
         (ap (λ y. render k (60 ∷ 47 ∷ y)) (sym (append-assoc n (62 ∷ z) rest))
-         ∙ more (60 ∷ 47 ∷ ((n ++ 62 ∷ z) ++ rest))
-         ∙ sym (append-assoc (render k []) (60 ∷ 47 ∷ (n ++ 62 ∷ z)) rest)
-         ∙ ap (λ y. y ++ rest) (sym (more (60 ∷ 47 ∷ (n ++ 62 ∷ z)))))
+        ∙ more (60 ∷ 47 ∷ ((n ++ 62 ∷ z) ++ rest))
+        ∙ sym (append-assoc (render k []) (60 ∷ 47 ∷ (n ++ 62 ∷ z)) rest)
+        ∙ ap (λ y. y ++ rest) (sym (more (60 ∷ 47 ∷ (n ++ 62 ∷ z)))))
 
 -- one forest and then another
 pub render-followed : (a b : Written) (rest : List ℕ) → render (followed-by a b) rest ≡ render a (render b rest)

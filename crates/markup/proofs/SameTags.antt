@@ -32,8 +32,8 @@ quote-not-space Single = tt
 
 -- values, up to the quote
 pieces-same :
-  (q : Quote) (ps qs : List ValuePiece) (r s : List ℕ) → PiecesStand (quote-mark q) ps → PiecesStand (quote-mark q) qs
-  → pieces-then ps (quote-mark q ∷ r) ≡ pieces-then qs (quote-mark q ∷ s) → (normalized ps ≡ normalized qs) × (r ≡ s)
+    (q : Quote) (ps qs : List ValuePiece) (r s : List ℕ) → PiecesStand (quote-mark q) ps → PiecesStand (quote-mark q) qs
+    → pieces-then ps (quote-mark q ∷ r) ≡ pieces-then qs (quote-mark q ∷ s) → (normalized ps ≡ normalized qs) × (r ≡ s)
 pieces-same q [] [] r s w v e = (refl, tail-same e)
 pieces-same q [] (literal c ∷ qs) r s w v e = absurd (not-in (is-data-but (quote-mark q)) (v .0) (quote-not-data q) (sym (head-same e)))
 pieces-same q [] (referring f ∷ qs) r s w v e = absurd (clash (e ∙ reference-head f (pieces-then qs (quote-mark q ∷ s)) .1) (quote-not-ampersand q))
@@ -53,8 +53,8 @@ pieces-same q (referring f ∷ ps) (referring g ∷ qs) r s w v e =
 
 -- a value with its quotes: they are the same quotes
 quoted-same :
-  (p q : Quote) (ps qs : List ValuePiece) (r s : List ℕ) → PiecesStand (quote-mark p) ps → PiecesStand (quote-mark q) qs
-  → quote-mark p ∷ pieces-then ps (quote-mark p ∷ r) ≡ quote-mark q ∷ pieces-then qs (quote-mark q ∷ s) → (normalized ps ≡ normalized qs) × (r ≡ s)
+    (p q : Quote) (ps qs : List ValuePiece) (r s : List ℕ) → PiecesStand (quote-mark p) ps → PiecesStand (quote-mark q) qs
+    → quote-mark p ∷ pieces-then ps (quote-mark p ∷ r) ≡ quote-mark q ∷ pieces-then qs (quote-mark q ∷ s) → (normalized ps ≡ normalized qs) × (r ≡ s)
 quoted-same Double Double ps qs r s w v e = pieces-same Double ps qs r s w v (tail-same e)
 quoted-same Single Single ps qs r s w v e = pieces-same Single ps qs r s w v (tail-same e)
 quoted-same Double Single ps qs r s w v e = absurd (clash e tt)
@@ -73,8 +73,8 @@ abbrev Stands : Specification → Type 0
 Stands a = OneOrMore is-space (a .space) × Name (a .name) × ZeroOrMore is-space (a .space-before-equals) × ZeroOrMore is-space (a .space-after-equals) × PiecesStand (quote-mark (a .quote)) (a .value)
 
 one-same :
-  (a b : Specification) (r s : List ℕ) → Stands a → Stands b → specifications-then (a ∷ []) r ≡ specifications-then (b ∷ []) s
-  → (a .name ≡ b .name) × (normalized (a .value) ≡ normalized (b .value)) × (r ≡ s)
+    (a b : Specification) (r s : List ℕ) → Stands a → Stands b → specifications-then (a ∷ []) r ≡ specifications-then (b ∷ []) s
+    → (a .name ≡ b .name) × (normalized (a .value) ≡ normalized (b .value)) × (r ≡ s)
 one-same a b r s h k e =
     let x = span is-space (a .space) (b .space) _ _ (some-is-many is-space (a .space) (h .0)) (some-is-many is-space (b .space) (k .0)) (name-stops-space (a .name) _ (h .1)) (name-stops-space (b .name) _ (k .1)) e in
     let n = span is-name-char (a .name) (b .name) _ _ (name-all (a .name) (h .1)) (name-all (b .name) (k .1)) (space-stops (a .space-before-equals) _ 61 (h .2) tt) (space-stops (b .space-before-equals) _ 61 (k .2) tt) (x .1) in
@@ -85,9 +85,9 @@ one-same a b r s h k e =
 
 -- attributes, up to `>` or `/`
 attributes-same :
-  (ps qs : List Specification) (s t : List ℕ) (c d : ℕ) (r q : List ℕ) → SpecificationsStand ps → SpecificationsStand qs → ZeroOrMore is-space s → ZeroOrMore is-space t
-  → T (not (is-space c)) → T (not (is-space d)) → T (not (is-name-start c)) → T (not (is-name-start d))
-  → specifications-then ps (s ++ (c ∷ r)) ≡ specifications-then qs (t ++ (d ∷ q)) → (specified ps ≡ specified qs) × (c ∷ r ≡ d ∷ q)
+    (ps qs : List Specification) (s t : List ℕ) (c d : ℕ) (r q : List ℕ) → SpecificationsStand ps → SpecificationsStand qs → ZeroOrMore is-space s → ZeroOrMore is-space t
+    → T (not (is-space c)) → T (not (is-space d)) → T (not (is-name-start c)) → T (not (is-name-start d))
+    → specifications-then ps (s ++ (c ∷ r)) ≡ specifications-then qs (t ++ (d ∷ q)) → (specified ps ≡ specified qs) × (c ∷ r ≡ d ∷ q)
 attributes-same [] [] s t c d r q w v hs ht hc hd nc nd e = (refl, span is-space s t (c ∷ r) (d ∷ q) hs ht hc hd e .1)
 attributes-same [] (b ∷ qs) s t c d r q w v hs ht hc hd nc nd e =
     absurd (name-head c r (b .name) _ nc (v .1) (span is-space s (b .space) (c ∷ r) _ hs (some-is-many is-space (b .space) (v .0)) hc (name-stops-space (b .name) _ (v .1)) e .1))
@@ -112,8 +112,8 @@ abbrev pub EndsTag : ℕ → Type 0
 EndsTag c = T (not (is-space c)) × T (not (is-name-start c)) × T (not (is-name-char c))
 
 pub tag-same :
-  (t u : Tag) (c d : ℕ) (r q : List ℕ) → TagStands t → TagStands u → EndsTag c → EndsTag d
-  → tag-then t (c ∷ r) ≡ tag-then u (d ∷ q) → (t .name ≡ u .name) × (specified (t .attributes) ≡ specified (u .attributes)) × (c ∷ r ≡ d ∷ q)
+    (t u : Tag) (c d : ℕ) (r q : List ℕ) → TagStands t → TagStands u → EndsTag c → EndsTag d
+    → tag-then t (c ∷ r) ≡ tag-then u (d ∷ q) → (t .name ≡ u .name) × (specified (t .attributes) ≡ specified (u .attributes)) × (c ∷ r ≡ d ∷ q)
 tag-same t u c d r q w v hc hd e =
     let n = span is-name-char (t .name) (u .name) _ _ (name-all (t .name) (w .0)) (name-all (u .name) (v .0)) (specifications-stop (t .attributes) (t .space) r c (w .1) (w .3) (hc .2)) (specifications-stop (u .attributes) (u .space) q d (v .1) (v .3) (hd .2)) (tail-same e) in
     let a = attributes-same (t .attributes) (u .attributes) (t .space) (u .space) c d r q (w .1) (v .1) (w .3) (v .3) (hc .0) (hd .0) (hc .1) (hd .1) (n .1) in

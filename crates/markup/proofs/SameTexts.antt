@@ -80,4 +80,4 @@ instruction-text (x ∷ space) text h = without-space (x ∷ space) text (h .0) 
 pub instruction-ends : (space text space′ text′ r s : List ℕ) → PIText space text → PIText space′ text′ → space ++ (text ++ (63 ∷ 62 ∷ r)) ≡ space′ ++ (text′ ++ (63 ∷ 62 ∷ s)) → r ≡ s
 instruction-ends space text space′ text′ r s h k e =
     instruction-same (space ++ text) (space′ ++ text′) r s (instruction-text space text h) (instruction-text space′ text′ k)
-      (append-assoc space text (63 ∷ 62 ∷ r) ∙ e ∙ sym (append-assoc space′ text′ (63 ∷ 62 ∷ s))) .1
+    (append-assoc space text (63 ∷ 62 ∷ r) ∙ e ∙ sym (append-assoc space′ text′ (63 ∷ 62 ∷ s))) .1

@@ -59,7 +59,7 @@ accepted =
       other-letters = known (codes "<é ü='ß'>日本€</é>") (tagged [] (tag (codes "é") (spec sp (codes "ü") [] [] Single (pieces (codes "ß") []) ∷ []) []) (char-data (codes "日本€")) (end (codes "é") []) (char-data [])) refl refl tt;
       names = known (codes "<_a-b.c1><B xml:id='i'/></_a-b.c1>") (tagged [] (tag (codes "_a-b.c1") [] []) (empty-tag [] (tag (codes "B") (spec sp (codes "xml:id") [] [] Single (pieces (codes "i") []) ∷ []) []) (char-data [])) (end (codes "_a-b.c1") []) (char-data [])) refl refl tt;
       nested = known (codes "<g><a/><a></a>t<g><b/></g></g>u") (tagged [] (tag (codes "g") [] []) (empty-tag [] (tag (codes "a") [] []) (tagged [] (tag (codes "a") [] []) (char-data []) (end (codes "a") []) (tagged (codes "t") (tag (codes "g") [] []) (empty-tag [] (tag (codes "b") [] []) (char-data [])) (end (codes "g") []) (char-data [])))) (end (codes "g") []) (char-data (codes "u"))) refl refl tt;
-      instruction-like-xml = known (codes "<?xmlx y?><?xml-z?>") (instruction [] (pi (codes "xmlx") sp (codes "y")) (instruction [] (pi (codes "xml-z") [] []) (char-data []))) refl refl tt
+      instruction-like-xml = known (codes "<?xmlx y?><?xml-z?>") (instruction [] (pi (codes "xmlx") sp (codes "y")) (instruction [] (pi (codes "xml-z") [] []) (char-data []))) refl refl tt;
     }
 
 -- the machine dies on all of these

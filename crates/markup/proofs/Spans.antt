@@ -26,7 +26,7 @@ Stops class [] = Unit {0}
 Stops class (c ∷ rest) = T (not (class c))
 
 pub span :
-  (class : ℕ → Bool) (xs ys r q : List ℕ) → ZeroOrMore class xs → ZeroOrMore class ys → Stops class r → Stops class q → xs ++ r ≡ ys ++ q → (xs ≡ ys) × (r ≡ q)
+    (class : ℕ → Bool) (xs ys r q : List ℕ) → ZeroOrMore class xs → ZeroOrMore class ys → Stops class r → Stops class q → xs ++ r ≡ ys ++ q → (xs ≡ ys) × (r ≡ q)
 span class [] [] r q a b s u e = (refl, e)
 span class [] (y ∷ ys) [] q a b s u e = let z : _≡_ {A = ℕ} 0 1 = cc in absurd (omega arith)
 span class [] (y ∷ ys) (c ∷ r) q a b s u e = absurd (not-in class (b .0) s (sym (head-same e)))
@@ -120,10 +120,12 @@ name-all (c ∷ cs) h = (start-in-name c (h .0), h .1)
 pub each-space : (P : ℕ → Type 0) → P 32 → P 9 → P 13 → P 10 → (c : ℕ) → T (is-space c) → P c
 each-space P a b d e c h =
     elim (or-T _ _ h) [
-      inl k ↦ subst P (sym (eqb→eq c 32 k)) a
-    | inr h ↦ elim (or-T _ _ h) [
-        inl k ↦ subst P (sym (eqb→eq c 9 k)) b
-      | inr h ↦ elim (or-T _ _ h) [ inl k ↦ subst P (sym (eqb→eq c 13 k)) d | inr k ↦ subst P (sym (eqb→eq c 10 k)) e ] ] ]
+      | inl k ↦ subst P (sym (eqb→eq c 32 k)) a
+      | inr h ↦ elim (or-T _ _ h) [
+        | inl k ↦ subst P (sym (eqb→eq c 9 k)) b
+        | inr h ↦ elim (or-T _ _ h) [ inl k ↦ subst P (sym (eqb→eq c 13 k)) d | inr k ↦ subst P (sym (eqb→eq c 10 k)) e ]
+      ]
+    ]
 
 pub space-stops : (s r : List ℕ) (c : ℕ) → ZeroOrMore is-space s → T (not (is-name-char c)) → Stops is-name-char (s ++ (c ∷ r))
 space-stops [] r c h g = g

@@ -19,6 +19,7 @@ tag-ended (e ∷ around) = go (is-empty (e .children)) refl
   where
     start : List ℕ
     start = start-tag (e .name) (e .attributes)
+
     go : (b : Bool) → is-empty (e .children) ≡ b → (outer around ++ (start ++ cond (is-empty (e .children)) [] (62 ∷ render (e .children) []))) ++ before-content (is-empty (e .children)) ≡ outer around ++ (start ++ 62 ∷ render (e .children) [])
     go true h =
         ap (λ b. (outer around ++ (start ++ cond b [] (62 ∷ render (e .children) []))) ++ before-content b) h
@@ -51,8 +52,8 @@ given-grows-at given outside (e ∷ around) h =
     let start = start-tag n (e .attributes) in
     let none : content-so-far (e .children) ≡ [] = ap (λ b. cond b [] (62 ∷ render (e .children) [])) h in
     let longer : start-tag n (e .attributes ++ given) ≡ start ++ a =
-      ap (λ z. 60 ∷ (n ++ z)) (attributes-join (e .attributes) given [] ∙ attributes-rest (e .attributes) a)
-      ∙ ap (λ z. 60 ∷ z) (sym (append-assoc n (attributes-then (e .attributes) []) a))
+    ap (λ z. 60 ∷ (n ++ z)) (attributes-join (e .attributes) given [] ∙ attributes-rest (e .attributes) a)
+    ∙ ap (λ z. 60 ∷ z) (sym (append-assoc n (attributes-then (e .attributes) []) a))
     in
     ap (λ z. render outside [] ++ (outer around ++ (start-tag n (e .attributes ++ given) ++ z))) none
     ∙ ap (λ z. render outside [] ++ (outer around ++ z)) (append-nil (start-tag n (e .attributes ++ given)) ∙ longer)
@@ -67,9 +68,9 @@ added-outer content outside [] h = append-nil _ ∙ render-both outside content
 added-outer content outside (e ∷ around) h =
     let start = start-tag (e .name) (e .attributes) in
     ap (λ z. render outside [] ++ (outer around ++ z))
-      (ap (λ b. start ++ cond b [] (62 ∷ render (followed-by (e .children) content) [])) (followed-by-some (e .children) content h)
-       ∙ ap (λ z. start ++ 62 ∷ z) (render-both (e .children) content)
-       ∙ sym (append-assoc start (62 ∷ render (e .children) []) (render content [])))
+    (ap (λ b. start ++ cond b [] (62 ∷ render (followed-by (e .children) content) [])) (followed-by-some (e .children) content h)
+    ∙ ap (λ z. start ++ 62 ∷ z) (render-both (e .children) content)
+    ∙ sym (append-assoc start (62 ∷ render (e .children) []) (render content [])))
     ∙ ap (λ z. render outside [] ++ z) (sym (append-assoc (outer around) (start ++ 62 ∷ render (e .children) []) (render content [])))
 
 added-grows : (content : Written) (u : Unfinished) → is-empty content ≡ false → so-far (add content u) ≡ so-far u ++ (before-content (in-start-tag (u .stack)) ++ render content [])
@@ -86,8 +87,10 @@ ended-whole e = go (is-empty (e .children)) refl
   where
     n : List ℕ
     n = e .name
+
     start : List ℕ
     start = start-tag n (e .attributes)
+
     go : (b : Bool) → is-empty (e .children) ≡ b → (start ++ content-so-far (e .children)) ++ end-mark (is-empty (e .children)) n ≡ render (ended e) []
     go true h =
         ap (λ b. (start ++ cond b [] (62 ∷ render (e .children) [])) ++ end-mark b n) h
@@ -121,7 +124,7 @@ growth =
       given = λ given u h. given-grows-at given (u .outside) (u .stack) h;
       added = added-grows;
       added-nothing = λ u. nothing-added (u .outside) (u .stack);
-      ended = ended-grows
+      ended = ended-grows;
     }
 
 -- Names and tags
@@ -139,7 +142,7 @@ growth-of-names =
     record {
       given = λ given u. given-names given (u .stack);
       added = λ content u h. added-names content (u .outside) (u .stack) h;
-      ended = λ outside e around. added-names (ended e) outside around refl
+      ended = λ outside e around. added-names (ended e) outside around refl;
     }
 
 -- The closing marks
@@ -164,8 +167,8 @@ ended-forest outside (e ∷ []) =
     ∙ ap (λ z. followed-by outside (element (e .name) (e .attributes) z empty)) (sym (followed-by-nothing (e .children)))
 ended-forest outside (e ∷ p ∷ around) =
     ap (λ z. followed-by outside (all-ended around (element (p .name) (p .attributes) z empty)))
-      (followed-by-nothing (followed-by (p .children) (ended e))
-       ∙ ap (λ z. followed-by (p .children) (element (e .name) (e .attributes) z empty)) (sym (followed-by-nothing (e .children))))
+    (followed-by-nothing (followed-by (p .children) (ended e))
+    ∙ ap (λ z. followed-by (p .children) (element (e .name) (e .attributes) z empty)) (sym (followed-by-nothing (e .children))))
 
 -- by ending one element after another
 whole : (depth : List OpenElement) (outside : Written) (stack : List OpenElement) → open-names depth ≡ open-names stack → so-far (unfinished outside stack) ++ owed (unfinished outside stack) ≡ render (finished (unfinished outside stack)) []
@@ -201,5 +204,5 @@ marks-close =
       whole = whole-of;
       ended = ended-owes;
       same-forest = λ u. ended-forest (u .outside) (u .stack);
-      at-the-end = λ outside. followed-by-nothing outside
+      at-the-end = λ outside. followed-by-nothing outside;
     }

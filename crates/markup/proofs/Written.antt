@@ -52,10 +52,10 @@ attributes-rest (a ∷ more) rest =
     let q = a .quote in
     let end : List ℕ → List ℕ = λ xs. quote-mark q ∷ xs in
     let e : value-then q (a .value) (end (attributes-then more rest)) ≡ value-then q (a .value) (end (attributes-then more [])) ++ rest =
-      value-rest q (a .value) (end (attributes-then more rest))
-      ∙ ap (λ xs. value-then q (a .value) [] ++ end xs) (attributes-rest more rest)
-      ∙ sym (append-assoc (value-then q (a .value) []) (end (attributes-then more [])) rest)
-      ∙ ap (λ xs. xs ++ rest) (sym (value-rest q (a .value) (end (attributes-then more []))))
+    value-rest q (a .value) (end (attributes-then more rest))
+    ∙ ap (λ xs. value-then q (a .value) [] ++ end xs) (attributes-rest more rest)
+    ∙ sym (append-assoc (value-then q (a .value) []) (end (attributes-then more [])) rest)
+    ∙ ap (λ xs. xs ++ rest) (sym (value-rest q (a .value) (end (attributes-then more []))))
     in
     ap (λ xs. 32 ∷ (a .name ++ (61 ∷ quote-mark q ∷ xs))) e
     ∙ ap (λ xs. 32 ∷ xs) (sym (append-assoc (a .name) (61 ∷ quote-mark q ∷ value-then q (a .value) (end (attributes-then more []))) rest))

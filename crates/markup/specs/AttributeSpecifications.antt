@@ -44,7 +44,7 @@ abbrev pub specifications-then : List Specification → List ℕ → List ℕ
 specifications-then [] rest = rest
 specifications-then (s ∷ more) rest =
     s .space ++ (s .name ++ (s .space-before-equals ++ (codes "=" ++ (s .space-after-equals
-      ++ (quote-mark (s .quote) ∷ pieces-then (s .value) (quote-mark (s .quote) ∷ specifications-then more rest))))))
+    ++ (quote-mark (s .quote) ∷ pieces-then (s .value) (quote-mark (s .quote) ∷ specifications-then more rest))))))
 
 abbrev pub SpecificationsStand : List Specification → Type 0
 SpecificationsStand [] = Unit {0}

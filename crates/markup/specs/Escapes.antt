@@ -21,19 +21,19 @@ quote-entity Single = codes "&apos;"
 abbrev pub escape-value : Quote → ℕ → List ℕ
 escape-value q c =
     cond (eqb c 38) (codes "&amp;")
-      (cond (eqb c 60) (codes "&lt;")
-        (cond (eqb c (quote-mark q)) (quote-entity q)
-          (cond (eqb c 9) (codes "&#9;")
-            (cond (eqb c 10) (codes "&#10;")
-              (cond (eqb c 13) (codes "&#13;") (c ∷ []))))))
+    (cond (eqb c 60) (codes "&lt;")
+    (cond (eqb c (quote-mark q)) (quote-entity q)
+    (cond (eqb c 9) (codes "&#9;")
+    (cond (eqb c 10) (codes "&#10;")
+    (cond (eqb c 13) (codes "&#13;") (c ∷ []))))))
 
 -- in text: & < > and carriage return
 abbrev pub escape-text : ℕ → List ℕ
 escape-text c =
     cond (eqb c 38) (codes "&amp;")
-      (cond (eqb c 60) (codes "&lt;")
-        (cond (eqb c 62) (codes "&gt;")
-          (cond (eqb c 13) (codes "&#13;") (c ∷ []))))
+    (cond (eqb c 60) (codes "&lt;")
+    (cond (eqb c 62) (codes "&gt;")
+    (cond (eqb c 13) (codes "&#13;") (c ∷ []))))
 
 -- a whole value and a whole text, each followed by what comes after
 abbrev pub value-then : Quote → List ℕ → List ℕ → List ℕ

@@ -17,8 +17,8 @@ pen held capacity lost = record { held = held; capacity = capacity; lost = lost 
 unfoldable pub step : PenState → ℕ → PenState
 step s byte =
     cond (ltb (length (s .held)) (s .capacity))
-      (pen (s .held ++ byte ∷ []) (s .capacity) (s .lost))
-      (pen (s .held) (s .capacity) true)
+    (pen (s .held ++ byte ∷ []) (s .capacity) (s .lost))
+    (pen (s .held) (s .capacity) true)
 
 -- bytes one after the other
 abbrev pub after : PenState → List ℕ → PenState

@@ -19,8 +19,8 @@ render empty rest = rest
 render (character c more) rest = escape-text c ++ render more rest
 render (element name attributes children more) rest =
     codes "<" ++ (name ++ attributes-then attributes
-      (tag-end (is-empty children) (render more rest)
-        (render children (codes "</" ++ (name ++ (codes ">" ++ render more rest))))))
+    (tag-end (is-empty children) (render more rest)
+    (render children (codes "</" ++ (name ++ (codes ">" ++ render more rest))))))
 
 -- the bytes: UTF-8
 abbrev pub written : Written → List ℕ

@@ -54,9 +54,9 @@ NoReading (bytes ∷ more) = ((m : Read) → Reading bytes m → ⊥) × NoReadi
 abbrev pub sample : Written
 sample =
     element (codes "g") (attribute Double (codes "id") (codes "p-m") ∷ [])
-      (element (codes "path") (attribute Single (codes "d") (codes "M 0 0") ∷ attribute Double (codes "fill") (codes "\"a\" & 'b'") ∷ attribute Single (codes "x") (codes "\"<'>") ∷ []) empty
-        (characters (codes "x < y > z" ++ (13 ∷ [])) empty))
-      empty
+    (element (codes "path") (attribute Single (codes "d") (codes "M 0 0") ∷ attribute Double (codes "fill") (codes "\"a\" & 'b'") ∷ attribute Single (codes "x") (codes "\"<'>") ∷ []) empty
+    (characters (codes "x < y > z" ++ (13 ∷ [])) empty))
+    empty
 
 pub record Samples : Type 0 where
   pub accepted : Accepted

@@ -21,7 +21,11 @@ fn hex(digit: u8) -> u8
     requires { ⌜ digit < 16 ⌝ }
     ensures { λ r. ⌜ r ≡ hex-digit digit ⌝ }
 {
-    if digit < 10 { b'0' + digit } else { b'a' + (digit - 10) }
+    if digit < 10 {
+        b'0' + digit
+    } else {
+        b'a' + (digit - 10)
+    }
 }
 
 pub impl Shown for Rgb as RgbShown {

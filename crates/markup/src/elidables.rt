@@ -26,7 +26,12 @@ pub trait Elidable: Shown {
 }
 
 /// An attribute, unless its value is the default.
-pub fn write_unless_default<S: Store, V: Elidable>(pen: &mut Pen<S>, quote: Quote, name: &[u8], value: &V)
+pub fn write_unless_default<S: Store, V: Elidable>(
+    pen: &mut Pen<S>,
+    quote: Quote,
+    name: &[u8],
+    value: &V,
+)
     ensures { λ _. ⌜ state S·Store (now (pen .exit)) ≡ after (state S·Store (now (pen .entry))) (attributes-then (unless (V·Elidable .plain (now (value .entry))) (attribute quote (now (name .entry)) (V·Shown .shown (now (value .entry))))) []) ⌝ }
 {
     if !value.is_default() {

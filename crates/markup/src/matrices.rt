@@ -34,15 +34,36 @@ pub impl Shown for Matrix as MatrixShown {
     fn show<S: Store>(&self, pen: &mut Pen<S>, quote: Quote) {
         let precision = self.precision;
         let numbers = [
-            Rounded { value: self.sx, precision },
-            Rounded { value: self.ky, precision },
-            Rounded { value: self.kx, precision },
-            Rounded { value: self.sy, precision },
-            Rounded { value: self.tx, precision },
-            Rounded { value: self.ty, precision },
+            Rounded {
+                value: self.sx,
+                precision,
+            },
+            Rounded {
+                value: self.ky,
+                precision,
+            },
+            Rounded {
+                value: self.kx,
+                precision,
+            },
+            Rounded {
+                value: self.sy,
+                precision,
+            },
+            Rounded {
+                value: self.tx,
+                precision,
+            },
+            Rounded {
+                value: self.ty,
+                precision,
+            },
         ];
         write_value(pen, quote, b"matrix(");
-        Joined { items: &numbers, separator: b" " }.show(pen, quote);
+        Joined {
+            items: &numbers,
+            separator: b" ",
+        }.show(pen, quote);
         write_value(pen, quote, b")");
     }
 }
@@ -51,6 +72,11 @@ pub impl Elidable for Matrix as MatrixElidable {
     ghost plain = { λ m. is-identity (m .sx) (m .ky) (m .kx) (m .sy) (m .tx) (m .ty) };
 
     fn is_default(&self) -> bool {
-        self.sx == 1.0 && self.ky == 0.0 && self.kx == 0.0 && self.sy == 1.0 && self.tx == 0.0 && self.ty == 0.0
+        self.sx == 1.0
+            && self.ky == 0.0
+            && self.kx == 0.0
+            && self.sy == 1.0
+            && self.tx == 0.0
+            && self.ty == 0.0
     }
 }

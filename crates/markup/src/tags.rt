@@ -50,7 +50,13 @@ impl Tag {
     }
 
     /// One attribute more.
-    pub fn attribute<S: Store, V: Shown>(&self, pen: &mut Pen<S>, quote: Quote, name: &[u8], value: &V)
+    pub fn attribute<S: Store, V: Shown>(
+        &self,
+        pen: &mut Pen<S>,
+        quote: Quote,
+        name: &[u8],
+        value: &V,
+    )
         ensures { λ _. ⌜ state S·Store (now (pen .exit)) ≡ after (state S·Store (now (pen .entry))) (attributes-then (attribute quote (now (name .entry)) (V·Shown .shown (now (value .entry))) ∷ []) []) ⌝ }
     {
         write_attribute(pen, quote, name, value);

@@ -30,22 +30,22 @@ pub close-names : (names rest : List Element) (name : Element) → names ≡ nam
 close-names names rest name e = ap (λ z. names-after z closes) e
 
 pub close-outcome : (b : Bool) {S : Type 0} (store : Ghosts S) (p : Plate S) (name : Element) (mark size : ℕ) (ended left : Pen S) →
-  view store p .names ≡ name ∷ reverse (take (p .depth - 1) (p .names)) →
-  mark ≡ length (store .held (p .pen .store)) →
-  state store ended ≡ after (state store (p .pen)) (ending (p .stage) name) →
-  size ≡ length (end-tags (reverse (take (p .depth - 1) (p .names)))) →
-  b ≡ fits (state store ended) size →
-  (mark ≤ length (store .held (ended .store)) → state store left ≡ settled (state store ended) mark size) →
-  Outcome b (view store p) closes (state store left)
+    view store p .names ≡ name ∷ reverse (take (p .depth - 1) (p .names)) →
+    mark ≡ length (store .held (p .pen .store)) →
+    state store ended ≡ after (state store (p .pen)) (ending (p .stage) name) →
+    size ≡ length (end-tags (reverse (take (p .depth - 1) (p .names)))) →
+    b ≡ fits (state store ended) size →
+    (mark ≤ length (store .held (ended .store)) → state store left ≡ settled (state store ended) mark size) →
+    Outcome b (view store p) closes (state store left)
 close-outcome b store p name mark size ended left e m wrote s told done =
     let before = view store p in
     let rest = reverse (take (p .depth - 1) (p .names)) in
     let clean : state store (p .pen) ≡ pen (before .held) (before .capacity) false = ap (pen (before .held) (before .capacity)) (p .clean) in
     outcome b before closes size mark (state store ended) (state store left)
-      (store .within (p .pen .store))
-      (close-allowed (before .names) rest name e)
-      (s ∙ ap length (sym (marks-body rest) ∙ ap (closing-marks Body) (sym (close-names (before .names) rest name e))))
-      ( wrote
-      ∙ ap (λ z. after z (ending (p .stage) name)) clean
-      ∙ ap (after (pen (before .held) (before .capacity) false)) (sym (close-added (before .names) rest name (p .stage) e)))
-      m told done
+    (store .within (p .pen .store))
+    (close-allowed (before .names) rest name e)
+    (s ∙ ap length (sym (marks-body rest) ∙ ap (closing-marks Body) (sym (close-names (before .names) rest name e))))
+    (wrote
+    ∙ ap (λ z. after z (ending (p .stage) name)) clean
+    ∙ ap (after (pen (before .held) (before .capacity) false)) (sym (close-added (before .names) rest name (p .stage) e)))
+    m told done

@@ -26,30 +26,30 @@ use Rattle.plates.specs.View.{view}
 use Rattle.plates.proofs.Outcomes.{Outcome, outcome}
 
 open-allowed : (names : List Element) (o : WriteOptions) (name : Element) (id : List ℕ) →
-  settings-stand o ≡ true → may-open names ≡ true → id-in Id id ≡ Ok tt → judged names (opens o name id) ≡ Ok tt
+    settings-stand o ≡ true → may-open names ≡ true → id-in Id id ≡ Ok tt → judged names (opens o name id) ≡ Ok tt
 open-allowed names o name id a b c =
     ap (λ z. required z Setting (required (may-open names) Moment (recast outside-nodes (id-in Id id)))) a
     ∙ ap (λ z. required z Moment (recast outside-nodes (id-in Id id))) b
     ∙ ap (recast outside-nodes) c
 
 pub open-outcome : (b : Bool) {S : Type 0} (store : Ghosts S) (p : Plate S) (o : WriteOptions) (name : Element) (id : List ℕ)
-  (mark size : ℕ) (finished started left : Pen S) →
-  settings-stand o ≡ true → may-open (view store p .names) ≡ true → id-in Id id ≡ Ok tt →
-  mark ≡ length (store .held (p .pen .store)) →
-  state store finished ≡ after (state store (p .pen)) (finish (p .stage)) →
-  state store started ≡ after (state store finished) (start-tag o name id) →
-  size ≡ length (end-tags (reverse (take (p .depth) (p .names)))) →
-  b ≡ fits (state store started) (2 + size) →
-  (mark ≤ length (store .held (started .store)) → state store left ≡ settled (state store started) mark (2 + size)) →
-  Outcome b (view store p) (opens o name id) (state store left)
+    (mark size : ℕ) (finished started left : Pen S) →
+    settings-stand o ≡ true → may-open (view store p .names) ≡ true → id-in Id id ≡ Ok tt →
+    mark ≡ length (store .held (p .pen .store)) →
+    state store finished ≡ after (state store (p .pen)) (finish (p .stage)) →
+    state store started ≡ after (state store finished) (start-tag o name id) →
+    size ≡ length (end-tags (reverse (take (p .depth) (p .names)))) →
+    b ≡ fits (state store started) (2 + size) →
+    (mark ≤ length (store .held (started .store)) → state store left ≡ settled (state store started) mark (2 + size)) →
+    Outcome b (view store p) (opens o name id) (state store left)
 open-outcome b store p o name id mark size finished started left settings moment named m first second s told done =
     let before = view store p in
     let clean : state store (p .pen) ≡ pen (before .held) (before .capacity) false = ap (pen (before .held) (before .capacity)) (p .clean) in
     outcome b before (opens o name id) (2 + size) mark (state store started) (state store left)
-      (store .within (p .pen .store))
-      (open-allowed (before .names) o name id settings moment named)
-      (omega arith)
-      ( second
-      ∙ ap (λ z. after z (start-tag o name id)) (first ∙ ap (λ z. after z (finish (p .stage))) clean)
-      ∙ after-after (pen (before .held) (before .capacity) false) (finish (p .stage)) (start-tag o name id))
-      m told done
+    (store .within (p .pen .store))
+    (open-allowed (before .names) o name id settings moment named)
+    (omega arith)
+    (second
+    ∙ ap (λ z. after z (start-tag o name id)) (first ∙ ap (λ z. after z (finish (p .stage))) clean)
+    ∙ after-after (pen (before .held) (before .capacity) false) (finish (p .stage)) (start-tag o name id))
+    m told done

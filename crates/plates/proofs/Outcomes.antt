@@ -45,8 +45,8 @@ Outcome true s act left = Kept s act left
 Outcome false s act left = CutBack s act left
 
 from-commit : (b : Bool) (s : PlateState) (act : Act) (owed : ℕ) (left : PenState) → judged (s .names) act ≡ Ok tt →
-  owed ≡ length (closing-marks (stage-after act) (names-after (s .names) act)) →
-  Commit (s .held) (s .capacity) (added (s .names) (s .stage) act) owed b left → Outcome b s act left
+    owed ≡ length (closing-marks (stage-after act) (names-after (s .names) act)) →
+    Commit (s .held) (s .capacity) (added (s .names) (s .stage) act) owed b left → Outcome b s act left
 from-commit true s act owed left e w c =
     let x = added (s .names) (s .stage) act in
     let fit : roomy (grown s act) ≡ true = ap (λ n. leb (length (s .held ++ x) + n) (s .capacity)) (sym w) ∙ sym (c .told) in
@@ -56,7 +56,7 @@ from-commit true s act owed left e w c =
       step = ap (λ z. taken z s (grown s act)) q;
       held = c .held ∙ ap (λ z. cond z (s .held ++ x) (s .held)) (sym (c .told));
       capacity = c .capacity;
-      clean = c .clean
+      clean = c .clean;
     }
 from-commit false s act owed left e w c =
     let x = added (s .names) (s .stage) act in
@@ -67,18 +67,18 @@ from-commit false s act owed left e w c =
       step = ap (λ z. taken z s (grown s act)) q;
       held = c .held ∙ ap (λ z. cond z (s .held ++ x) (s .held)) (sym (c .told));
       capacity = c .capacity;
-      clean = c .clean
+      clean = c .clean;
     }
 
 pub outcome : (b : Bool) (s : PlateState) (act : Act) (owed mark : ℕ) (written left : PenState) →
-  length (s .held) ≤ s .capacity →
-  judged (s .names) act ≡ Ok tt →
-  owed ≡ length (closing-marks (stage-after act) (names-after (s .names) act)) →
-  written ≡ after (pen (s .held) (s .capacity) false) (added (s .names) (s .stage) act) →
-  mark ≡ length (s .held) →
-  b ≡ fits written owed →
-  (mark ≤ length (written .held) → left ≡ settled written mark owed) →
-  Outcome b s act left
+    length (s .held) ≤ s .capacity →
+    judged (s .names) act ≡ Ok tt →
+    owed ≡ length (closing-marks (stage-after act) (names-after (s .names) act)) →
+    written ≡ after (pen (s .held) (s .capacity) false) (added (s .names) (s .stage) act) →
+    mark ≡ length (s .held) →
+    b ≡ fits written owed →
+    (mark ≤ length (written .held) → left ≡ settled written mark owed) →
+    Outcome b s act left
 outcome b s act owed mark written left within judge w writes m told done =
     from-commit b s act owed left judge w
-      (commits (s .held) (s .capacity) (added (s .names) (s .stage) act) owed mark b written left within writes m told done)
+    (commits (s .held) (s .capacity) (added (s .names) (s .stage) act) owed mark b written left within writes m told done)

@@ -45,7 +45,7 @@ runs-fit s (act ∷ acts) f = runs-fit (next s act) acts (next-fits s act f)
 
 -- one close
 close-fits : (h : List ℕ) (c : ℕ) (name : Element) (names : List Element) (stage : Stage) → Fits (plate h c (name ∷ names) stage) →
-  length (h ++ ending stage name) + length (closing-marks Body names) ≤ c
+    length (h ++ ending stage name) + length (closing-marks Body names) ≤ c
 close-fits h c name names stage f =
     let a = length-append h (ending stage name) in
     let b = length-append (ending stage name) (end-tags names) in
@@ -53,7 +53,7 @@ close-fits h c name names stage f =
     omega arith
 
 close-told : (h : List ℕ) (c : ℕ) (name : Element) (names : List Element) (stage : Stage) → Fits (plate h c (name ∷ names) stage) →
-  answer (plate h c (name ∷ names) stage) closes ≡ Ok tt
+    answer (plate h c (name ∷ names) stage) closes ≡ Ok tt
 close-told h c name names stage f = ap (λ z. required z Full (Ok tt)) (le-leb _ _ (close-fits h c name names stage f))
 
 -- all of them, one after the other
@@ -68,14 +68,14 @@ all-close (name ∷ names) h c stage f =
       each = λ k l. each-time k (told) step rest l;
       last = ap (λ z. answer (closed (length names) z) closes) step ∙ rest .last;
       whole =
-        ap (λ z. closed (length names) z .held) step
-        ∙ rest .whole
-        ∙ append-assoc h (ending stage name) (closing-marks Body names)
-        ∙ ap (λ z. h ++ (ending stage name ++ z)) (marks-body names)
+          ap (λ z. closed (length names) z .held) step
+          ∙ rest .whole
+          ∙ append-assoc h (ending stage name) (closing-marks Body names)
+          ∙ ap (λ z. h ++ (ending stage name ++ z)) (marks-body names);
     }
   where
     each-time : (k : ℕ) → answer (plate h c (name ∷ names) stage) closes ≡ Ok tt → next (plate h c (name ∷ names) stage) closes ≡ plate (h ++ ending stage name) c names Body →
-      Closes (plate (h ++ ending stage name) c names Body) → k < suc (length names) → answer (closed k (plate h c (name ∷ names) stage)) closes ≡ Ok tt
+        Closes (plate (h ++ ending stage name) c names Body) → k < suc (length names) → answer (closed k (plate h c (name ∷ names) stage)) closes ≡ Ok tt
     each-time zero told step rest l = told
     each-time (suc k) told step rest l = ap (λ z. answer (closed k z) closes) step ∙ rest .each k (omega arith)
 

@@ -20,7 +20,7 @@ use Rattle.plates.specs.Closing.{end-tag, end-tags, closing-marks}
 
 -- the innermost
 pub innermost : (names : List Element) (depth : ℕ) (x : Element) → 0 < depth → depth ≤ length names →
-  reverse (take depth names) ≡ getD names (depth - 1) x ∷ reverse (take (depth - 1) names)
+    reverse (take depth names) ≡ getD names (depth - 1) x ∷ reverse (take (depth - 1) names)
 innermost names depth x h l =
     let e : depth ≡ depth - 1 + 1 = omega arith in
     ap (λ n. reverse (take n names)) e
@@ -29,7 +29,7 @@ innermost names depth x h l =
 
 -- one more
 pub one-more : (names : List Element) (depth : ℕ) (name : Element) → depth < length names →
-  reverse (take (depth + 1) (set names depth name)) ≡ name ∷ reverse (take depth names)
+    reverse (take (depth + 1) (set names depth name)) ≡ name ∷ reverse (take depth names)
 one-more names depth name h = ap reverse (take-more-set names depth name h) ∙ reverse-append (take depth names) (name ∷ [])
 
 pub depth-of : (names : List Element) (depth : ℕ) → depth ≤ length names → length (reverse (take depth names)) ≡ depth
@@ -50,7 +50,7 @@ pub end-tag-size : (name : Element) → length (end-tag name) ≡ length (elemen
 end-tag-size name = let e = length-append (element-name name) (codes ">") in omega arith
 
 pub end-tags-more : (names : List Element) (i : ℕ) (x : Element) → i < length names →
-  length (end-tags (reverse (take (i + 1) names))) ≡ length (element-name (getD names i x)) + 3 + length (end-tags (reverse (take i names)))
+    length (end-tags (reverse (take (i + 1) names))) ≡ length (element-name (getD names i x)) + 3 + length (end-tags (reverse (take i names)))
 end-tags-more names i x h =
     let name = getD names i x in
     ap (λ z. length (end-tags (reverse z))) (take-more names i x h)
@@ -64,7 +64,7 @@ marks-body [] = refl
 marks-body (name ∷ names) = refl
 
 pub marks-tag : (stage : Stage) (names rest : List Element) (name : Element) → (stage ≡ Fresh) ⊎ (stage ≡ Filled) → names ≡ name ∷ rest →
-  length (closing-marks stage names) ≡ 2 + length (end-tags rest)
+    length (closing-marks stage names) ≡ 2 + length (end-tags rest)
 marks-tag stage names rest name (inl e) f = rw (e, f) (omega arith)
 marks-tag stage names rest name (inr e) f = rw (e, f) (omega arith)
 
@@ -77,7 +77,7 @@ may-open-deep names depth h l =
     ap (λ z. z && not (in-gradient (reverse (take depth names)))) e
 
 pub may-open-here : (names : List Element) (depth : ℕ) (x : Element) → 0 < depth → depth < 32 → depth ≤ length names →
-  may-open (reverse (take depth names)) ≡ not (is-gradient (getD names (depth - 1) x))
+    may-open (reverse (take depth names)) ≡ not (is-gradient (getD names (depth - 1) x))
 may-open-here names depth x h k l =
     let d = depth-of names depth l in
     let e : ltb (length (reverse (take depth names))) 32 ≡ true = lt-ltb _ _ (omega arith) in

@@ -39,4 +39,4 @@ start-whole o name id =
     let rest = attributes-then (namespaces (quote-of o) name) [] in
     ap (λ xs. codes "<" ++ (element-name name ++ (attributes-then (id-attributes o id) [] ++ xs))) (append-nil rest)
     ∙ ap (λ xs. codes "<" ++ (element-name name ++ xs))
-        (sym (attributes-rest (id-attributes o id) rest) ∙ sym (attributes-join (id-attributes o id) (namespaces (quote-of o) name) []))
+    (sym (attributes-rest (id-attributes o id) rest) ∙ sym (attributes-join (id-attributes o id) (namespaces (quote-of o) name) []))

@@ -50,7 +50,12 @@ impl<S: Store> Plate<S> {
     pub fn new(store: S) -> Plate<S>
         ensures { λ r. ⌜ view S·Store r ≡ blank (S·Store .capacity store) ⌝ }
     {
-        Plate { pen: Pen::new(store), names: [Element::G; DEEPEST], depth: 0, stage: Stage::Body }
+        Plate {
+            pen: Pen::new(store),
+            names: [Element::G; DEEPEST],
+            depth: 0,
+            stage: Stage::Body,
+        }
     }
 
     /// Whether an element may be opened now.
@@ -141,7 +146,12 @@ impl<S: Store> Plate<S> {
     pub fn into_store(self) -> S
         ensures { λ r. ⌜ r ≡ self .pen .store ⌝ }
     {
-        let Plate { pen, names: _, depth: _, stage: _ } = self;
+        let Plate {
+            pen,
+            names: _,
+            depth: _,
+            stage: _,
+        } = self;
         pen.into_store()
     }
 }

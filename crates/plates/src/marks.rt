@@ -13,16 +13,20 @@ use drawing::options::WriteOptions;
 use markup::attributes::write_attribute;
 use markup::pens::Pen;
 use markup::quotes::Quote;
-use markup::values::Fixed;
-use markup::values::FixedShown;
 use markup::references::PrefixedId;
 use markup::references::PrefixedIdShown;
+use markup::values::Fixed;
+use markup::values::FixedShown;
 use stores::Store;
 
 fn quote(options: &WriteOptions) -> Quote
     ensures { λ r. ⌜ r ≡ quote-of (now (options .entry)) ⌝ }
 {
-    if options.use_single_quote { Quote::Single } else { Quote::Double }
+    if options.use_single_quote {
+        Quote::Single
+    } else {
+        Quote::Double
+    }
 }
 
 /// The id with its prefix; an empty id writes nothing.
@@ -30,7 +34,15 @@ fn write_id<S: Store>(pen: &mut Pen<S>, options: &WriteOptions, id: &[u8])
     ensures { λ _. ⌜ state S·Store (now (pen .exit)) ≡ after (state S·Store (now (pen .entry))) (attributes-then (id-attributes (now (options .entry)) (now (id .entry))) []) ⌝ }
 {
     if id.len() > 0 {
-        write_attribute(pen, quote(options), b"id", &PrefixedId { prefix: options.prefix(), id });
+        write_attribute(
+            pen,
+            quote(options),
+            b"id",
+            &PrefixedId {
+                prefix: options.prefix(),
+                id,
+            },
+        );
     }
 }
 
@@ -39,7 +51,12 @@ fn write_namespaces<S: Store>(pen: &mut Pen<S>, quote: Quote, element: Element)
 {
     if let Element::Svg = element {
         write_attribute(pen, quote, b"xmlns", &Fixed(b"http://www.w3.org/2000/svg"));
-        write_attribute(pen, quote, b"xmlns:xlink", &Fixed(b"http://www.w3.org/1999/xlink"));
+        write_attribute(
+            pen,
+            quote,
+            b"xmlns:xlink",
+            &Fixed(b"http://www.w3.org/1999/xlink"),
+        );
     }
 }
 

@@ -7,11 +7,11 @@ mod tests {
     use plates::elements::Element;
     use plates::plates::Plate;
     use std::test::*;
+    use stores::Store;
     use stores::pages::Page;
     use stores::pages::PageStore;
     use stores::rolls::Roll;
     use stores::rolls::RollStore;
-    use stores::Store;
 
     // The number of the rule that refuses a call, 0 where none does.
     fn rule(answer: Result<(), Fault>) -> u8 {
@@ -50,11 +50,21 @@ mod tests {
     fn eleven_bytes_and_ten() -> Result<(), Fail> {
         let mut answer = 1;
         let mut wide = [7u8; 11];
-        let page = open_one(Page::new(&mut wide), &WriteOptions::new(), b"m", &mut answer);
+        let page = open_one(
+            Page::new(&mut wide),
+            &WriteOptions::new(),
+            b"m",
+            &mut answer,
+        );
         check_eq(answer, 0)?;
         check(page.text() == b"<g id=\"m\"")?;
         let mut tight = [7u8; 10];
-        let page = open_one(Page::new(&mut tight), &WriteOptions::new(), b"m", &mut answer);
+        let page = open_one(
+            Page::new(&mut tight),
+            &WriteOptions::new(),
+            b"m",
+            &mut answer,
+        );
         check_eq(answer, 9)?;
         check_eq(page.count(), 0)?;
         check(page.image() == &[0u8; 10])
@@ -64,7 +74,12 @@ mod tests {
     fn a_roll_of_100_bytes() -> Result<(), Fail> {
         let mut answer = 1;
         let mut buffer = [7u8; 100];
-        let roll = open_one(Roll::new(&mut buffer), &WriteOptions::new(), b"m", &mut answer);
+        let roll = open_one(
+            Roll::new(&mut buffer),
+            &WriteOptions::new(),
+            b"m",
+            &mut answer,
+        );
         check_eq(answer, 0)?;
         check_eq(roll.size(), 63)?;
         check_eq(roll.byte(1), Some(b'g'))?;

@@ -16,7 +16,7 @@ pub one-more : (n : ℕ) (xs : List ℕ) → 0 ∷ (zeros n ++ xs) ≡ zeros (n 
 one-more n xs = rw add-one
 
 pub blank-put : (buffer : List ℕ) (size len byte : ℕ) → len < size → size ≤ length buffer → drop len buffer ≡ zeros (size - len) ++ drop size buffer →
-  drop (len + 1) (set buffer len byte) ≡ zeros (size - (len + 1)) ++ drop size (set buffer len byte)
+    drop (len + 1) (set buffer len byte) ≡ zeros (size - (len + 1)) ++ drop size (set buffer len byte)
 blank-put buffer size len byte l w blank =
     let n = size - (len + 1) in
     let e : size - len ≡ n + 1 = omega arith in
@@ -27,7 +27,7 @@ blank-put buffer size len byte l w blank =
     ∙ ap (λ xs. zeros n ++ xs) (sym (drop-set-lt size buffer len byte l))
 
 pub blank-cut : (buffer : List ℕ) (size len : ℕ) → len < size → size ≤ length buffer → drop (len + 1) buffer ≡ zeros (size - (len + 1)) ++ drop size buffer →
-  drop len (set buffer len 0) ≡ zeros (size - len) ++ drop size (set buffer len 0)
+    drop len (set buffer len 0) ≡ zeros (size - len) ++ drop size (set buffer len 0)
 blank-cut buffer size len l w blank =
     let n = size - (len + 1) in
     let e : n + 1 ≡ size - len = omega arith in
@@ -39,7 +39,7 @@ blank-cut buffer size len l w blank =
 
 -- the image, from the zeros
 pub page-laid : (buffer : List ℕ) (size len : ℕ) → len ≤ size → size ≤ length buffer → drop len buffer ≡ zeros (size - len) ++ drop size buffer →
-  buffer ≡ page-image size (take len buffer) (drop size buffer)
+    buffer ≡ page-image size (take len buffer) (drop size buffer)
 page-laid buffer size len f w blank =
     let l : length (take len buffer) ≡ len = rw length-take (omega arith) in
     sym (take-append-drop len buffer)

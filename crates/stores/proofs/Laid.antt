@@ -33,29 +33,29 @@ spot n len l =
 
 -- one write within the records, by what it does to the image
 pub write : (n i value : ℕ) (buffer old new : List ℕ) → i < 64 * n → length new ≤ 63 * n → Laid n buffer old →
-  set (roll-image n old) i value ≡ roll-image n new → Laid n (set buffer i value) new
+    set (roll-image n old) i value ≡ roll-image n new → Laid n (set buffer i value) new
 write n i value buffer old new l f b w =
     let e : take (64 * n) (set buffer i value) ≡ roll-image n new =
-      take-set-lt (64 * n) buffer i value l ∙ ap (λ xs. set xs i value) (b .laid ∙ ap (roll-image n) (b .reads)) ∙ w
+    take-set-lt (64 * n) buffer i value l ∙ ap (λ xs. set xs i value) (b .laid ∙ ap (roll-image n) (b .reads)) ∙ w
     in
     let r = image-reads n (set buffer i value) new f e in
     record { laid = e ∙ ap (roll-image n) (sym r); reads = r }
 
 pub count-up : (n len : ℕ) (buffer held : List ℕ) → Laid n buffer held → len ≡ length held → len < 63 * n →
-  Laid n (set buffer (64 * (len / 63)) (len % 63 + 1)) (held ++ 0 ∷ [])
+    Laid n (set buffer (64 * (len / 63)) (len % 63 + 1)) (held ++ 0 ∷ [])
 count-up n len buffer held b e l =
     let s = spot n len l in
     let f : length (held ++ 0 ∷ []) ≤ 63 * n = rw length-push (omega arith) in
     write n _ _ buffer held (held ++ 0 ∷ []) (s .count) f b (roll-count-up n (len / 63) (len % 63) held (sym e ∙ s .whole) (s .short) (s .exists))
 
 pub count-down : (n len : ℕ) (buffer held : List ℕ) → Laid n buffer (held ++ 0 ∷ []) → len ≡ length held → len < 63 * n →
-  Laid n (set buffer (64 * (len / 63)) (len % 63)) held
+    Laid n (set buffer (64 * (len / 63)) (len % 63)) held
 count-down n len buffer held b e l =
     let s = spot n len l in
     write n _ _ buffer (held ++ 0 ∷ []) held (s .count) (omega arith) b (roll-count-down n (len / 63) (len % 63) held (sym e ∙ s .whole) (s .short) (s .exists))
 
 pub last-byte : (n len : ℕ) (buffer held : List ℕ) (old new : ℕ) → Laid n buffer (held ++ old ∷ []) → len ≡ length held → len < 63 * n →
-  Laid n (set buffer (64 * (len / 63) + (len % 63 + 1)) new) (held ++ new ∷ [])
+    Laid n (set buffer (64 * (len / 63) + (len % 63 + 1)) new) (held ++ new ∷ [])
 last-byte n len buffer held old new b e l =
     let s = spot n len l in
     let f : length (held ++ new ∷ []) ≤ 63 * n = rw length-push (omega arith) in
@@ -72,7 +72,7 @@ without-last held last e =
 
 -- the byte at a place of the text
 pub byte-at : (n place : ℕ) (buffer : List ℕ) → take (64 * n) buffer ≡ roll-image n (roll-text n buffer) → place < length (roll-text n buffer) →
-  getD buffer (64 * (place / 63) + (place % 63 + 1)) 0 ≡ getD (roll-text n buffer) place 0
+    getD buffer (64 * (place / 63) + (place % 63 + 1)) 0 ≡ getD (roll-text n buffer) place 0
 byte-at n place buffer e l =
     let w = roll-text-within n buffer in
     let s = spot n place (omega arith) in
@@ -91,7 +91,7 @@ in-reach n buffer e =
 pub new-laid : (n : ℕ) (rest : List ℕ) → Laid n (zeros (64 * n) ++ rest) []
 new-laid n rest =
     let e : take (64 * n) (zeros (64 * n) ++ rest) ≡ roll-image n [] =
-      take-at (zeros (64 * n)) rest (64 * n) (length-replicate (64 * n) 0) ∙ sym (roll-empty n)
+    take-at (zeros (64 * n)) rest (64 * n) (length-replicate (64 * n) 0) ∙ sym (roll-empty n)
     in
     let r = image-reads n (zeros (64 * n) ++ rest) [] (omega arith) e in
     record { laid = e ∙ ap (roll-image n) (sym r); reads = r }

@@ -63,7 +63,7 @@ record-last text old new =
 
 -- In the roll: after q full records, a write that turns the record of one text into that of another.
 pub roll-write : (n q i value : ℕ) (full old new : List ℕ) → length full ≡ 63 * q → length old ≤ 63 → length new ≤ 63 → i < 64 → q < n →
-  set (record-image old) i value ≡ record-image new → set (roll-image n (full ++ old)) (64 * q + i) value ≡ roll-image n (full ++ new)
+    set (record-image old) i value ≡ record-image new → set (roll-image n (full ++ old)) (64 * q + i) value ≡ roll-image n (full ++ new)
 roll-write zero q i value full old new e a b k l w = absurd (omega arith)
 roll-write (suc n) zero i value (x ∷ full) old new e a b k l w = absurd (omega arith)
 roll-write (suc n) zero i value [] old new e a b k l w =
@@ -102,7 +102,7 @@ regroup k held x = ap (λ xs. xs ++ x ∷ []) (sym (take-append-drop k held)) �
 -- The three writes, at a text of q full records and o bytes in the next.
 
 pub roll-count-up : (n q o : ℕ) (held : List ℕ) → length held ≡ 63 * q + o → o < 63 → q < n →
-  set (roll-image n held) (64 * q) (o + 1) ≡ roll-image n (held ++ 0 ∷ [])
+    set (roll-image n held) (64 * q) (o + 1) ≡ roll-image n (held ++ 0 ∷ [])
 roll-count-up n q o held e l h =
     let full = take (63 * q) held in
     let text = drop (63 * q) held in
@@ -117,7 +117,7 @@ roll-count-up n q o held e l h =
     ∙ ap (roll-image n) (sym (regroup (63 * q) held 0))
 
 pub roll-count-down : (n q o : ℕ) (held : List ℕ) → length held ≡ 63 * q + o → o < 63 → q < n →
-  set (roll-image n (held ++ 0 ∷ [])) (64 * q) o ≡ roll-image n held
+    set (roll-image n (held ++ 0 ∷ [])) (64 * q) o ≡ roll-image n held
 roll-count-down n q o held e l h =
     let full = take (63 * q) held in
     let text = drop (63 * q) held in
@@ -132,7 +132,7 @@ roll-count-down n q o held e l h =
     ∙ ap (roll-image n) (take-append-drop (63 * q) held)
 
 pub roll-last : (n q o : ℕ) (held : List ℕ) (old new : ℕ) → length held ≡ 63 * q + o → o < 63 → q < n →
-  set (roll-image n (held ++ old ∷ [])) (64 * q + (o + 1)) new ≡ roll-image n (held ++ new ∷ [])
+    set (roll-image n (held ++ old ∷ [])) (64 * q + (o + 1)) new ≡ roll-image n (held ++ new ∷ [])
 roll-last n q o held old new e l h =
     let full = take (63 * q) held in
     let text = drop (63 * q) held in
@@ -141,7 +141,7 @@ roll-last n q o held old new e l h =
     let a : length (text ++ old ∷ []) ≤ 63 = rw length-push (omega arith) in
     let b : length (text ++ new ∷ []) ≤ 63 = rw length-push (omega arith) in
     let w : set (record-image (text ++ old ∷ [])) (o + 1) new ≡ record-image (text ++ new ∷ []) =
-      ap (λ k. set (record-image (text ++ old ∷ [])) (k + 1) new) (sym t) ∙ record-last text old new
+    ap (λ k. set (record-image (text ++ old ∷ [])) (k + 1) new) (sym t) ∙ record-last text old new
     in
     ap (λ xs. set (roll-image n xs) (64 * q + (o + 1)) new) (regroup (63 * q) held old)
     ∙ roll-write n q (o + 1) new full (text ++ old ∷ []) (text ++ new ∷ []) f a b (omega arith) h w
@@ -149,7 +149,7 @@ roll-last n q o held old new e l h =
 
 -- where the image has the byte at a place of the text
 pub roll-byte : (n q o : ℕ) (held : List ℕ) → 63 * q + o < length held → length held ≤ 63 * n → o < 63 →
-  getD (roll-image n held) (64 * q + (o + 1)) 0 ≡ getD held (63 * q + o) 0
+    getD (roll-image n held) (64 * q + (o + 1)) 0 ≡ getD held (63 * q + o) 0
 roll-byte zero q o held e h l = absurd (omega arith)
 roll-byte (suc n) zero o held e h l =
     let text = take 63 held in

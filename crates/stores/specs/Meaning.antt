@@ -12,15 +12,15 @@ use Rattle.std.specs.Options.{Cases as BySome}
 abbrev pub Put : {Refusal : Type 0} → List ℕ → ℕ → ℕ → List ℕ → Result (Unit {0}) Refusal → Type 0
 Put before capacity byte after answer =
     Cases answer
-      (λ _. (length before < capacity) × (after ≡ before ++ byte ∷ []))
-      (λ _. (length before ≡ capacity) × (after ≡ before))
+    (λ _. (length before < capacity) × (after ≡ before ++ byte ∷ []))
+    (λ _. (length before ≡ capacity) × (after ≡ before))
 
 -- cut: the first bytes are kept; refused exactly when fewer are held, and then nothing changes
 abbrev pub Cut : {Refusal : Type 0} → List ℕ → ℕ → List ℕ → Result (Unit {0}) Refusal → Type 0
 Cut before count after answer =
     Cases answer
-      (λ _. (count ≤ length before) × (after ≡ take count before))
-      (λ _. (length before < count) × (after ≡ before))
+    (λ _. (count ≤ length before) × (after ≡ take count before))
+    (λ _. (length before < count) × (after ≡ before))
 
 -- the byte at a place, or none past the end
 abbrev pub ByteAt : List ℕ → ℕ → Option ℕ → Type 0

@@ -39,6 +39,5 @@ pub roll-text-within : (n : ℕ) (bytes : List ℕ) → length (roll-text n byte
 roll-text-within zero bytes = omega arith
 roll-text-within (suc n) bytes =
     let rest = roll-text-within n (drop 64 bytes) in
-
     let front : length (record-text (take 64 bytes)) ≤ 63 = rw (length-take, length-take) (omega arith) in
     rw length-append (omega arith)

@@ -15,7 +15,6 @@ mod buffers;
 pub mod pages;
 pub mod rolls;
 
-
 /// Refused: the store holds as many bytes as it can.
 #[derive(Clone, Copy)]
 pub struct Full;

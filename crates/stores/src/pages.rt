@@ -10,11 +10,11 @@ ghost use denote.Ref.{now as at};
 ghost use Rattle.stores.specs.Meaning.{Put, Cut};
 ghost use Rattle.stores.specs.Reach.{reach};
 ghost use Rattle.stores.specs.Pages.{zeros, page-image, taken-within};
-use crate::buffers::clear;
-use crate::buffers::reach_of;
 use crate::Full;
 use crate::Short;
 use crate::Store;
+use crate::buffers::clear;
+use crate::buffers::reach_of;
 
 #[derive(Drop)]
 pub struct Page<'a> {
@@ -35,7 +35,11 @@ impl<'a> Page<'a> {
     {
         let size = reach_of(buffer);
         clear(buffer, size);
-        Page { buffer, size, len: 0 }
+        Page {
+            buffer,
+            size,
+            len: 0,
+        }
     }
 
     /// The bytes held.
@@ -100,6 +104,10 @@ pub impl<'a> Store for Page<'a> as PageStore {
     }
 
     fn byte(&self, place: usize) -> Option<u8> {
-        if place < self.len { Some(self.buffer[place]) } else { None }
+        if place < self.len {
+            Some(self.buffer[place])
+        } else {
+            None
+        }
     }
 }

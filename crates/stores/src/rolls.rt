@@ -11,14 +11,15 @@ ghost use denote.Ref.{now as at};
 ghost use Rattle.stores.specs.Meaning.{Put, Cut};
 ghost use Rattle.stores.specs.Reach.{reach};
 ghost use Rattle.stores.specs.Rolls.{roll-image, roll-text, read-roll, roll-text-within, RollReadsBack};
-use crate::buffers::clear;
-use crate::buffers::reach_of;
 use crate::Full;
 use crate::Short;
 use crate::Store;
+use crate::buffers::clear;
+use crate::buffers::reach_of;
 
 /// The bytes of a record, and those of its text.
 const RECORD: usize = 64;
+
 const TEXT: usize = 63;
 
 #[derive(Drop)]
@@ -40,7 +41,11 @@ impl<'a> Roll<'a> {
     {
         let records = reach_of(buffer) / RECORD;
         clear(buffer, RECORD * records);
-        Roll { buffer, records, len: 0 }
+        Roll {
+            buffer,
+            records,
+            len: 0,
+        }
     }
 
     /// The whole buffer, as the roll laid it out.

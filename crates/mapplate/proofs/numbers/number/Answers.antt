@@ -32,8 +32,7 @@ loop-byte-again c =
 pub returns : need.returns
 returns c =
     let word = c .args .word .now in
-    let i = c .loop-byte .byte-index in
-    (
+    let i = c .loop-byte .byte-index in (
       (search needs, sym (c .loop-byte .inv .2) ∙ digits-all word i (search needs)),
       sym (value-all word i (c .loop-byte .value) (search needs)) ∙ c .loop-byte .inv .1,
       c .loop-byte .inv .0,

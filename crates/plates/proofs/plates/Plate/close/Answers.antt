@@ -21,9 +21,9 @@ ghost-self g c =
     let d = p .deep in
     let z = c .if-self-eq0 .left in
     let r : CutBack (view (g .S·Store) p) closes (state (g .S·Store) (c .settle .last .self)) =
-      close-outcome false (g .S·Store) p _ (c .mark-mark .result) (c .end-tags-size-owed .result) (c .write-end .last .pen) (c .settle .last .self)
-      (innermost (p .names) (p .depth) _ (omega arith) (omega arith)) (c .mark-mark .ensures) (c .write-end .ensures) (c .end-tags-size-owed .ensures .size)
-      (c .if-not-settle .ensures tt .told) (c .if-not-settle .ensures tt .done)
+    close-outcome false (g .S·Store) p _ (c .mark-mark .result) (c .end-tags-size-owed .result) (c .write-end .last .pen) (c .settle .last .self)
+    (innermost (p .names) (p .depth) _ (omega arith) (omega arith)) (c .mark-mark .ensures) (c .write-end .ensures) (c .end-tags-size-owed .ensures .size)
+    (c .if-not-settle .ensures tt .told) (c .if-not-settle .ensures tt .done)
     in
     (w, (d, (r .clean, tt)))
 
@@ -34,14 +34,14 @@ returns-then-not-settle g c =
     let d = p .deep in
     let z = c .if-self-eq0 .left in
     let r : CutBack (view (g .S·Store) p) closes (state (g .S·Store) (c .settle .last .self)) =
-      close-outcome false (g .S·Store) p _ (c .mark-mark .result) (c .end-tags-size-owed .result) (c .write-end .last .pen) (c .settle .last .self)
-      (innermost (p .names) (p .depth) _ (omega arith) (omega arith)) (c .mark-mark .ensures) (c .write-end .ensures) (c .end-tags-size-owed .ensures .size)
-      (c .if-not-settle .ensures tt .told) (c .if-not-settle .ensures tt .done)
+    close-outcome false (g .S·Store) p _ (c .mark-mark .result) (c .end-tags-size-owed .result) (c .write-end .last .pen) (c .settle .last .self)
+    (innermost (p .names) (p .depth) _ (omega arith) (omega arith)) (c .mark-mark .ensures) (c .write-end .ensures) (c .end-tags-size-owed .ensures .size)
+    (c .if-not-settle .ensures tt .told) (c .if-not-settle .ensures tt .done)
     in
     record {
       told = sym (r .told);
       done = same-plate (r .held) (r .capacity) refl refl ∙ sym (r .step);
-      kept = (refl, refl, refl, r .clean ∙ sym (p .clean))
+      kept = (refl, refl, refl, r .clean ∙ sym (p .clean));
     }
 
 -- all fitted
@@ -52,9 +52,9 @@ ghost-self-2 g c =
     let d = p .deep in
     let z = c .if-self-eq0 .left in
     let r : Kept (view (g .S·Store) p) closes (state (g .S·Store) (c .settle .last .self)) =
-      close-outcome true (g .S·Store) p _ (c .mark-mark .result) (c .end-tags-size-owed .result) (c .write-end .last .pen) (c .settle .last .self)
-      (innermost (p .names) (p .depth) _ (omega arith) (omega arith)) (c .mark-mark .ensures) (c .write-end .ensures) (c .end-tags-size-owed .ensures .size)
-      (c .if-not-settle .ensures tt .told) (c .if-not-settle .ensures tt .done)
+    close-outcome true (g .S·Store) p _ (c .mark-mark .result) (c .end-tags-size-owed .result) (c .write-end .last .pen) (c .settle .last .self)
+    (innermost (p .names) (p .depth) _ (omega arith) (omega arith)) (c .mark-mark .ensures) (c .write-end .ensures) (c .end-tags-size-owed .ensures .size)
+    (c .if-not-settle .ensures tt .told) (c .if-not-settle .ensures tt .done)
     in
     (w, (omega arith, (r .clean, tt)))
 
@@ -65,13 +65,13 @@ returns g c =
     let d = p .deep in
     let z = c .if-self-eq0 .left in
     let r : Kept (view (g .S·Store) p) closes (state (g .S·Store) (c .settle .last .self)) =
-      close-outcome true (g .S·Store) p _ (c .mark-mark .result) (c .end-tags-size-owed .result) (c .write-end .last .pen) (c .settle .last .self)
-      (innermost (p .names) (p .depth) _ (omega arith) (omega arith)) (c .mark-mark .ensures) (c .write-end .ensures) (c .end-tags-size-owed .ensures .size)
-      (c .if-not-settle .ensures tt .told) (c .if-not-settle .ensures tt .done)
+    close-outcome true (g .S·Store) p _ (c .mark-mark .result) (c .end-tags-size-owed .result) (c .write-end .last .pen) (c .settle .last .self)
+    (innermost (p .names) (p .depth) _ (omega arith) (omega arith)) (c .mark-mark .ensures) (c .write-end .ensures) (c .end-tags-size-owed .ensures .size)
+    (c .if-not-settle .ensures tt .told) (c .if-not-settle .ensures tt .done)
     in
     let n = close-names (reverse (take (p .depth) (p .names))) (reverse (take (p .depth - 1) (p .names))) _ (innermost (p .names) (p .depth) Svg (omega arith) (omega arith)) in
     record {
       told = sym (r .told);
       done = same-plate (r .held) (r .capacity) (sym n) refl ∙ sym (r .step);
-      kept = tt
+      kept = tt;
     }

@@ -16,10 +16,10 @@ use Rattle.plates.proofs.plates.Plate.open.Needs as need
 cut-back : (g : _) (c : need.Then-not-settle g) → CutBack (view (g .S·Store) (c .args .self .now)) (opens (c .args .options .now) (c .args .element) (c .args .id .now)) (state (g .S·Store) (c .settle .last .self))
 cut-back g c =
     open-outcome false (g .S·Store) (c .args .self .now) (c .args .options .now) (c .args .element) (c .args .id .now)
-      (c .mark-mark .result) (c .end-tags-size-owed .result) (c .write-finish .last .pen) (c .write-start .last .pen) (c .settle .last .self)
-      (sym (c .if-not-are-settings .ensures tt)) (sym (c .if-not-may-open .ensures tt)) (sym (c .in-Continue-id-at .ensures tt))
-      (c .mark-mark .ensures) (c .write-finish .ensures) (c .write-start .ensures) (c .end-tags-size-owed .ensures .size)
-      (c .if-not-settle .ensures tt .told) (c .if-not-settle .ensures tt .done)
+    (c .mark-mark .result) (c .end-tags-size-owed .result) (c .write-finish .last .pen) (c .write-start .last .pen) (c .settle .last .self)
+    (sym (c .if-not-are-settings .ensures tt)) (sym (c .if-not-may-open .ensures tt)) (sym (c .in-Continue-id-at .ensures tt))
+    (c .mark-mark .ensures) (c .write-finish .ensures) (c .write-start .ensures) (c .end-tags-size-owed .ensures .size)
+    (c .if-not-settle .ensures tt .told) (c .if-not-settle .ensures tt .done)
 
 pub ghost-self : need.ghost-self
 ghost-self g c = (c .args .self .now .whole, (c .args .self .now .deep, (cut-back g c .clean, tt)))
@@ -27,16 +27,16 @@ ghost-self g c = (c .args .self .now .whole, (c .args .self .now .deep, (cut-bac
 pub returns-then-not-settle : need.returns-then-not-settle
 returns-then-not-settle g c =
     let r : CutBack (view (g .S·Store) (c .args .self .now)) (opens (c .args .options .now) (c .args .element) (c .args .id .now)) (state (g .S·Store) (c .settle .last .self)) =
-      open-outcome false (g .S·Store) (c .args .self .now) (c .args .options .now) (c .args .element) (c .args .id .now)
-      (c .mark-mark .result) (c .end-tags-size-owed .result) (c .write-finish .last .pen) (c .write-start .last .pen) (c .settle .last .self)
-      (sym (c .if-not-are-settings .ensures tt)) (sym (c .if-not-may-open .ensures tt)) (sym (c .in-Continue-id-at .ensures tt))
-      (c .mark-mark .ensures) (c .write-finish .ensures) (c .write-start .ensures) (c .end-tags-size-owed .ensures .size)
-      (c .if-not-settle .ensures tt .told) (c .if-not-settle .ensures tt .done)
+    open-outcome false (g .S·Store) (c .args .self .now) (c .args .options .now) (c .args .element) (c .args .id .now)
+    (c .mark-mark .result) (c .end-tags-size-owed .result) (c .write-finish .last .pen) (c .write-start .last .pen) (c .settle .last .self)
+    (sym (c .if-not-are-settings .ensures tt)) (sym (c .if-not-may-open .ensures tt)) (sym (c .in-Continue-id-at .ensures tt))
+    (c .mark-mark .ensures) (c .write-finish .ensures) (c .write-start .ensures) (c .end-tags-size-owed .ensures .size)
+    (c .if-not-settle .ensures tt .told) (c .if-not-settle .ensures tt .done)
     in
     record {
       told = sym (r .told);
       done = same-plate (r .held) (r .capacity) refl refl ∙ sym (r .step);
-      kept = (refl, refl, refl, r .clean ∙ sym (c .args .self .now .clean))
+      kept = (refl, refl, refl, r .clean ∙ sym (c .args .self .now .clean));
     }
 
 -- all fitted
@@ -53,11 +53,11 @@ ghost-self-2 g c =
     let w = p .whole in
     let d = p .deep in
     let r : Kept (view (g .S·Store) (c .args .self .now)) (opens (c .args .options .now) (c .args .element) (c .args .id .now)) (state (g .S·Store) (c .settle .last .self)) =
-      open-outcome true (g .S·Store) (c .args .self .now) (c .args .options .now) (c .args .element) (c .args .id .now)
-      (c .mark-mark .result) (c .end-tags-size-owed .result) (c .write-finish .last .pen) (c .write-start .last .pen) (c .settle .last .self)
-      (sym (c .if-not-are-settings .ensures tt)) (sym (c .if-not-may-open .ensures tt)) (sym (c .in-Continue-id-at .ensures tt))
-      (c .mark-mark .ensures) (c .write-finish .ensures) (c .write-start .ensures) (c .end-tags-size-owed .ensures .size)
-      (c .if-not-settle .ensures tt .told) (c .if-not-settle .ensures tt .done)
+    open-outcome true (g .S·Store) (c .args .self .now) (c .args .options .now) (c .args .element) (c .args .id .now)
+    (c .mark-mark .result) (c .end-tags-size-owed .result) (c .write-finish .last .pen) (c .write-start .last .pen) (c .settle .last .self)
+    (sym (c .if-not-are-settings .ensures tt)) (sym (c .if-not-may-open .ensures tt)) (sym (c .in-Continue-id-at .ensures tt))
+    (c .mark-mark .ensures) (c .write-finish .ensures) (c .write-start .ensures) (c .end-tags-size-owed .ensures .size)
+    (c .if-not-settle .ensures tt .told) (c .if-not-settle .ensures tt .done)
     in
     let l = room-for-one (p .names) (p .depth) (omega arith) (sym (c .if-not-may-open .ensures tt)) in
     (length-set (p .names) (p .depth) (c .args .element) ∙ w, (omega arith, (r .clean, tt)))
@@ -68,15 +68,15 @@ returns g c =
     let w = p .whole in
     let d = p .deep in
     let r : Kept (view (g .S·Store) (c .args .self .now)) (opens (c .args .options .now) (c .args .element) (c .args .id .now)) (state (g .S·Store) (c .settle .last .self)) =
-      open-outcome true (g .S·Store) (c .args .self .now) (c .args .options .now) (c .args .element) (c .args .id .now)
-      (c .mark-mark .result) (c .end-tags-size-owed .result) (c .write-finish .last .pen) (c .write-start .last .pen) (c .settle .last .self)
-      (sym (c .if-not-are-settings .ensures tt)) (sym (c .if-not-may-open .ensures tt)) (sym (c .in-Continue-id-at .ensures tt))
-      (c .mark-mark .ensures) (c .write-finish .ensures) (c .write-start .ensures) (c .end-tags-size-owed .ensures .size)
-      (c .if-not-settle .ensures tt .told) (c .if-not-settle .ensures tt .done)
+    open-outcome true (g .S·Store) (c .args .self .now) (c .args .options .now) (c .args .element) (c .args .id .now)
+    (c .mark-mark .result) (c .end-tags-size-owed .result) (c .write-finish .last .pen) (c .write-start .last .pen) (c .settle .last .self)
+    (sym (c .if-not-are-settings .ensures tt)) (sym (c .if-not-may-open .ensures tt)) (sym (c .in-Continue-id-at .ensures tt))
+    (c .mark-mark .ensures) (c .write-finish .ensures) (c .write-start .ensures) (c .end-tags-size-owed .ensures .size)
+    (c .if-not-settle .ensures tt .told) (c .if-not-settle .ensures tt .done)
     in
     let l = room-for-one (p .names) (p .depth) (omega arith) (sym (c .if-not-may-open .ensures tt)) in
     record {
       told = sym (r .told);
       done = same-plate (r .held) (r .capacity) (one-more (p .names) (p .depth) (c .args .element) (omega arith)) refl ∙ sym (r .step);
-      kept = tt
+      kept = tt;
     }

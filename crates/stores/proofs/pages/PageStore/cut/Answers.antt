@@ -17,10 +17,11 @@ ghost-self c =
     let k = p .len - 1 in
     let e : p .len ≡ k + 1 = omega arith in
     let blank : drop (k + 1) (p .buffer .now) ≡ zeros (p .size - (k + 1)) ++ drop (p .size) (p .buffer .now) =
-      subst (λ n. drop n (p .buffer .now) ≡ zeros (p .size - n) ++ drop (p .size) (p .buffer .now)) e (p .blank)
-    in
-    ( s ∙ ap (λ n. min n 1048576) (sym (length-set (p .buffer .now) k 0))
-    , (omega arith, (blank-cut (p .buffer .now) (p .size) k (omega arith) (omega arith) blank, tt)))
+    subst (λ n. drop n (p .buffer .now) ≡ zeros (p .size - n) ++ drop (p .size) (p .buffer .now)) e (p .blank)
+    in (
+      s ∙ ap (λ n. min n 1048576) (sym (length-set (p .buffer .now) k 0)),
+      (omega arith, (blank-cut (p .buffer .now) (p .size) k (omega arith) (omega arith) blank, tt)),
+    )
 
 pub loop-self-again : need.loop-self-again
 loop-self-again c = search (needs, places, take-set-le, drop-set-lt)

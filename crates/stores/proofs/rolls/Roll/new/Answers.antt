@@ -30,5 +30,5 @@ returns c =
     record {
       records = ap (λ k. k / 64) (c .reach-of-records .ensures);
       image = e ∙ ap (λ xs. xs ++ drop (64 * n) old) (sym (roll-empty n));
-      empty = laid .reads
+      empty = laid .reads;
     }

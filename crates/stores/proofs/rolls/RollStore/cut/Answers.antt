@@ -43,9 +43,10 @@ ghost-self c =
     let s = turn (c .loop-self .self) (c .args .count) (c .loop-self-test .taken) in
     let last = r .len - 1 in
     let t = c .loop-self-test .taken in
-    let e : r .len ≡ last + 1 = omega arith in
-    ( r .sized ∙ ap (λ k. min k 1048576 / 64) (sym (length-set (r .buffer .now) (64 * (last / 63) + (last % 63 + 1)) 0))
-    , (s .cleared .laid, (e ∙ ap (λ k. k + 1) (sym (s .count)) ∙ sym (ap length (s .cleared .reads) ∙ length-push (take last (roll-text (r .records) (r .buffer .now))) 0), tt)))
+    let e : r .len ≡ last + 1 = omega arith in (
+      r .sized ∙ ap (λ k. min k 1048576 / 64) (sym (length-set (r .buffer .now) (64 * (last / 63) + (last % 63 + 1)) 0)),
+      (s .cleared .laid, (e ∙ ap (λ k. k + 1) (sym (s .count)) ∙ sym (ap length (s .cleared .reads) ∙ length-push (take last (roll-text (r .records) (r .buffer .now))) 0), tt)),
+    )
 
 pub index-self-record-in-loop-self : need.index-self-record-in-loop-self
 index-self-record-in-loop-self c =
@@ -59,9 +60,10 @@ ghost-self-in-loop-self c =
     let r = c .loop-self .self in
     let s = turn (c .loop-self .self) (c .args .count) (c .loop-self-test .taken) in
     let last = r .len - 1 in
-    let first = set (r .buffer .now) (64 * (last / 63) + (last % 63 + 1)) 0 in
-    ( r .sized ∙ ap (λ k. min k 1048576 / 64) (sym (length-set first (64 * (last / 63)) (last % 63) ∙ length-set (r .buffer .now) (64 * (last / 63) + (last % 63 + 1)) 0))
-    , (s .dropped .laid, (sym (s .count) ∙ sym (ap length (s .dropped .reads)), tt)))
+    let first = set (r .buffer .now) (64 * (last / 63) + (last % 63 + 1)) 0 in (
+      r .sized ∙ ap (λ k. min k 1048576 / 64) (sym (length-set first (64 * (last / 63)) (last % 63) ∙ length-set (r .buffer .now) (64 * (last / 63) + (last % 63 + 1)) 0)),
+      (s .dropped .laid, (sym (s .count) ∙ sym (ap length (s .dropped .reads)), tt)),
+    )
 
 pub loop-self-again : need.loop-self-again
 loop-self-again c =
@@ -74,13 +76,14 @@ loop-self-again c =
     let last = r .len - 1 in
     let first = set (r .buffer .now) (64 * (last / 63) + (last % 63 + 1)) 0 in
     let beyond : drop (64 * n) (set first (64 * (last / 63)) (last % 63)) ≡ drop (64 * n) (r .buffer .now) =
-      drop-set-lt (64 * n) first (64 * (last / 63)) (last % 63) (s .at .count)
-      ∙ drop-set-lt (64 * n) (r .buffer .now) (64 * (last / 63) + (last % 63 + 1)) 0 (s .at .byte)
-    in
-    ( omega arith
-    , ap (take (c .args .count)) (s .dropped .reads) ∙ take-take (c .args .count) last (roll-text n (r .buffer .now)) (omega arith) ∙ i .1
-    , i .2
-    , subst (λ k. drop (64 * k) (set first (64 * (last / 63)) (last % 63)) ≡ drop (64 * k) (r .buffer .now)) (i .2) beyond ∙ i .3)
+    drop-set-lt (64 * n) first (64 * (last / 63)) (last % 63) (s .at .count)
+    ∙ drop-set-lt (64 * n) (r .buffer .now) (64 * (last / 63) + (last % 63 + 1)) 0 (s .at .byte)
+    in (
+      omega arith,
+      ap (take (c .args .count)) (s .dropped .reads) ∙ take-take (c .args .count) last (roll-text n (r .buffer .now)) (omega arith) ∙ i .1,
+      i .2,
+      subst (λ k. drop (64 * k) (set first (64 * (last / 63)) (last % 63)) ≡ drop (64 * k) (r .buffer .now)) (i .2) beyond ∙ i .3,
+    )
 
 pub returns : need.returns
 returns c =
@@ -93,5 +96,5 @@ returns c =
     record {
       sized = ap (λ n. 63 * n) (i .2);
       cases = (omega (arith, c .if-count-self .left), sym (take-all (c .args .count) (roll-text (r .records) (r .buffer .now)) (omega arith)) ∙ i .1);
-      beyond = i .3
+      beyond = i .3;
     }

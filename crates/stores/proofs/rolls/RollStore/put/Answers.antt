@@ -23,9 +23,10 @@ ghost-self c =
     let r = c .args .self .now in
     let n = r .records in
     let held = roll-text n (r .buffer .now) in
-    let up = count-up n (r .len) (r .buffer .now) held (as-laid n (r .buffer .now) (r .laid)) (r .counted) (c .if-self .left) in
-    ( r .sized ∙ ap (λ k. min k 1048576 / 64) (sym (length-set (r .buffer .now) (64 * (r .len / 63)) (r .len % 63 + 1)))
-    , (up .laid, (ap (λ k. k + 1) (r .counted) ∙ sym (ap length (up .reads) ∙ length-push held 0), tt)))
+    let up = count-up n (r .len) (r .buffer .now) held (as-laid n (r .buffer .now) (r .laid)) (r .counted) (c .if-self .left) in (
+      r .sized ∙ ap (λ k. min k 1048576 / 64) (sym (length-set (r .buffer .now) (64 * (r .len / 63)) (r .len % 63 + 1))),
+      (up .laid, (ap (λ k. k + 1) (r .counted) ∙ sym (ap length (up .reads) ∙ length-push held 0), tt)),
+    )
 
 -- then the byte
 pub ghost-self-2 : need.ghost-self-2
@@ -35,9 +36,10 @@ ghost-self-2 c =
     let held = roll-text n (r .buffer .now) in
     let first = set (r .buffer .now) (64 * (r .len / 63)) (r .len % 63 + 1) in
     let up = count-up n (r .len) (r .buffer .now) held (as-laid n (r .buffer .now) (r .laid)) (r .counted) (c .if-self .left) in
-    let put = last-byte n (r .len) first held 0 (c .args .byte) up (r .counted) (c .if-self .left) in
-    ( r .sized ∙ ap (λ k. min k 1048576 / 64) (sym (length-set first (64 * (r .len / 63) + (r .len % 63 + 1)) (c .args .byte) ∙ length-set (r .buffer .now) (64 * (r .len / 63)) (r .len % 63 + 1)))
-    , (put .laid, (ap (λ k. k + 1) (r .counted) ∙ sym (ap length (put .reads) ∙ length-push held (c .args .byte)), tt)))
+    let put = last-byte n (r .len) first held 0 (c .args .byte) up (r .counted) (c .if-self .left) in (
+      r .sized ∙ ap (λ k. min k 1048576 / 64) (sym (length-set first (64 * (r .len / 63) + (r .len % 63 + 1)) (c .args .byte) ∙ length-set (r .buffer .now) (64 * (r .len / 63)) (r .len % 63 + 1))),
+      (put .laid, (ap (λ k. k + 1) (r .counted) ∙ sym (ap length (put .reads) ∙ length-push held (c .args .byte)), tt)),
+    )
 
 pub returns : need.returns
 returns c =
@@ -53,6 +55,6 @@ returns c =
       sized = refl;
       cases = (omega arith, put .reads);
       beyond =
-        drop-set-lt (64 * n) first (64 * (r .len / 63) + (r .len % 63 + 1)) (c .args .byte) (s .byte)
-        ∙ drop-set-lt (64 * n) (r .buffer .now) (64 * (r .len / 63)) (r .len % 63 + 1) (s .count)
+          drop-set-lt (64 * n) first (64 * (r .len / 63) + (r .len % 63 + 1)) (c .args .byte) (s .byte)
+          ∙ drop-set-lt (64 * n) (r .buffer .now) (64 * (r .len / 63)) (r .len % 63 + 1) (s .count);
     }

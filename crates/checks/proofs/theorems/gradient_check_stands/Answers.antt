@@ -1,0 +1,5 @@
+use Rattle.checks.proofs.Whole as proof
+use Rattle.checks.proofs.theorems.gradient_check_stands.Needs as need
+
+pub returns : need.returns
+returns c = proof.gradient-check-stands
