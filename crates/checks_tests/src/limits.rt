@@ -8,6 +8,7 @@ use crate::sheets::*;
 use checks::calls::check_draw;
 use checks::calls::check_gradient;
 use drawing::faults::Fault;
+use drawing::rows::BaselineShift;
 use drawing::rows::FontFamily;
 use drawing::rows::Group;
 use drawing::rows::Path;
@@ -133,11 +134,7 @@ fn rows() -> Result<(), Fail> {
 
 // So many groups, each in the one before.
 fn nested(count: usize) -> u8 {
-    let mut nodes = [node(Kind::Group, 0, 0); 66];
-    for i in 0..66 {
-        nodes[i] = node(Kind::Group, 0, count);
-    }
-    with_nodes(&nodes)
+    with_nodes(&[node(Kind::Group, 0, count); 66])
 }
 
 #[test]
@@ -225,153 +222,96 @@ fn places() -> Result<(), Fail> {
     )
 }
 
-// Lists as long as they may be, and one longer. No node names the lists' entries.
-#[test]
-fn longest_lists() -> Result<(), Fail> {
-    let sheet = Sheet::good();
-    let nodes = [node(Kind::Group, 0, 1); 4097];
-    let numbers = [0.0; 16385];
-    let references = [REFERENCE; 16385];
-    check_eq(
-        rule(check_draw(
-            &Drawing {
-                nodes: &nodes[0..4096],
-                ..sheet.drawing()
-            },
-            0,
-        )),
-        0,
-    )?;
-    check_eq(
-        rule(check_draw(
-            &Drawing {
-                nodes: &nodes,
-                ..sheet.drawing()
-            },
-            0,
-        )),
-        3,
-    )?;
-    check_eq(
-        rule(check_draw(
-            &Drawing {
-                numbers: &numbers[0..16384],
-                ..sheet.drawing()
-            },
-            0,
-        )),
-        0,
-    )?;
-    check_eq(
-        rule(check_draw(
-            &Drawing {
-                numbers: &numbers,
-                ..sheet.drawing()
-            },
-            0,
-        )),
-        3,
-    )?;
-    check_eq(
-        rule(check_draw(
-            &Drawing {
-                references: &references,
-                ..sheet.drawing()
-            },
-            0,
-        )),
-        3,
-    )?;
-    check_eq(
-        rule(check_gradient(
-            &Drawing {
-                references: &references,
-                ..sheet.drawing()
-            },
-            0,
-        )),
-        3,
-    )
-}
+// The good drawing with one other list: the rule that refuses its first node.
 
-#[test]
-fn longest_pool() -> Result<(), Fail> {
+fn with_numbers(numbers: &[f32]) -> u8 {
     let sheet = Sheet::good();
-    let nodes = [node(Kind::Group, 0, 1)];
-    let pool = [b'a'; 65537];
     let drawing = Drawing {
-        nodes: &nodes,
+        numbers,
         ..sheet.drawing()
     };
-    check_eq(
-        rule(check_draw(
-            &Drawing {
-                pool: &pool[0..65536],
-                ..drawing
-            },
-            0,
-        )),
-        0,
-    )?;
-    check_eq(
-        rule(check_draw(
-            &Drawing {
-                pool: &pool,
-                ..drawing
-            },
-            0,
-        )),
-        3,
-    )
+    rule(check_draw(&drawing, 0))
 }
 
-// At most 64 families and shifts of a span.
-#[test]
-fn longest_spans() -> Result<(), Fail> {
+fn with_references(references: &[Place]) -> u8 {
     let sheet = Sheet::good();
-    let families = [FontFamily::Serif; 65];
-    let font = drawing::rows::Font {
-        families: place(0, 64),
-        ..sheet.spans[1].font
+    let drawing = Drawing {
+        references,
+        ..sheet.drawing()
     };
-    let spans = [
-        sheet.spans[0],
-        TextSpan {
-            font,
-            ..sheet.spans[1]
-        },
-    ];
-    check_eq(
-        rule(check_draw(
-            &Drawing {
-                families: &families,
-                spans: &spans,
-                ..sheet.drawing()
-            },
-            0,
-        )),
-        0,
-    )?;
-    let font = drawing::rows::Font {
-        families: place(0, 65),
-        ..font
+    rule(check_draw(&drawing, 0))
+}
+
+fn gradient_with_references(references: &[Place]) -> u8 {
+    let sheet = Sheet::good();
+    let drawing = Drawing {
+        references,
+        ..sheet.drawing()
     };
-    let spans = [
-        sheet.spans[0],
-        TextSpan {
-            font,
-            ..sheet.spans[1]
-        },
-    ];
-    check_eq(
-        rule(check_draw(
-            &Drawing {
-                families: &families,
-                spans: &spans,
-                ..sheet.drawing()
-            },
-            0,
-        )),
-        3,
-    )
+    rule(check_gradient(&drawing, 0))
+}
+
+fn with_pool(pool: &[u8]) -> u8 {
+    let mut sheet = Sheet::good();
+    sheet.nodes[0].end = 1;
+    let drawing = Drawing {
+        pool,
+        ..sheet.drawing()
+    };
+    rule(check_draw(&drawing, 0))
+}
+
+fn with_families(families: &[FontFamily], count: usize) -> u8 {
+    let mut sheet = Sheet::good();
+    sheet.spans[1].font.families = place(0, count);
+    let drawing = Drawing {
+        families,
+        ..sheet.drawing()
+    };
+    rule(check_draw(&drawing, 0))
+}
+
+fn with_shifts(shifts: &[BaselineShift], count: usize) -> u8 {
+    let mut sheet = Sheet::good();
+    sheet.spans[1].baseline_shift = place(0, count);
+    let drawing = Drawing {
+        shifts,
+        ..sheet.drawing()
+    };
+    rule(check_draw(&drawing, 0))
+}
+
+fn with_spans(spans: &[TextSpan], count: usize) -> u8 {
+    let mut sheet = Sheet::good();
+    sheet.chunks[1].spans = place(0, count);
+    let drawing = Drawing {
+        spans,
+        ..sheet.drawing()
+    };
+    rule(check_draw(&drawing, 0))
+}
+
+// Lists as long as they may be, and one longer, whether a node names their entries or not.
+#[test]
+fn longest_lists() -> Result<(), Fail> {
+    check_eq(with_nodes(&[node(Kind::Group, 0, 1); 4096]), 0)?;
+    check_eq(with_nodes(&[node(Kind::Group, 0, 1); 4097]), 3)?;
+    check_eq(with_numbers(&[0.5; 16384]), 0)?;
+    check_eq(with_numbers(&[0.5; 16385]), 3)?;
+    check_eq(with_references(&[REFERENCE; 16384]), 0)?;
+    check_eq(with_references(&[REFERENCE; 16385]), 3)?;
+    check_eq(gradient_with_references(&[REFERENCE; 16384]), 0)?;
+    check_eq(gradient_with_references(&[REFERENCE; 16385]), 3)?;
+    check_eq(with_pool(&[b'a'; 65536]), 0)?;
+    check_eq(with_pool(&[b'a'; 65537]), 3)
+}
+
+#[test]
+fn longest_places() -> Result<(), Fail> {
+    check_eq(with_families(&[FontFamily::Serif; 65], 64), 0)?;
+    check_eq(with_families(&[FontFamily::Serif; 65], 65), 3)?;
+    check_eq(with_shifts(&[BaselineShift::Baseline; 65], 64), 0)?;
+    check_eq(with_shifts(&[BaselineShift::Baseline; 65], 65), 3)?;
+    check_eq(with_spans(&[Sheet::good().spans[0]; 257], 256), 0)?;
+    check_eq(with_spans(&[Sheet::good().spans[0]; 257], 257), 3)
 }

@@ -4,3 +4,5 @@ pub mod Outcomes
 pub mod Opens
 pub mod Closes
 pub mod Promised
+pub mod Legal
+pub mod Forests

@@ -4,3 +4,4 @@ pub mod Steps
 pub mod View
 pub mod Known
 pub mod Promise
+pub mod Forests

@@ -7,4 +7,5 @@ pub mod calls;
 pub mod elements;
 mod marks;
 pub mod plates;
+pub mod readings;
 pub mod theorems;
