@@ -141,7 +141,7 @@ pub record Limited (d : Drawing) : Type 0 where
   pub stops : length (d .stops .now) ≤ 16384
   pub pool : length (d .pool .now) ≤ 65536
 
--- the entries of the node i that P chooses keep their rules
+-- the entries of the node i keep their rules, all of them or some
 abbrev pub EntriesAt : (Fields → List Field) → Drawing → ℕ → Type 0
 EntriesAt some d i = All Kept (some (node-fields d (node-at d i)))
 

@@ -12,6 +12,7 @@ use drawing::rows::Paint;
 use drawing::rows::Path;
 use drawing::rows::Stroke;
 use drawing::rows::TextDecoration;
+use drawing::rows::TextDecorationStyle;
 use drawing::rows::TextSpan;
 use std::test::*;
 
@@ -101,14 +102,14 @@ fn field_before_field() -> Result<(), Fail> {
 fn decorations() -> Result<(), Fail> {
     let span = Sheet::good().spans[1];
     let wide = style();
-    let faint = drawing::rows::TextDecorationStyle {
+    let faint = TextDecorationStyle {
         fill: Some(Fill {
             opacity: 2.0,
             ..fill()
         }),
         ..wide
     };
-    let thin = drawing::rows::TextDecorationStyle {
+    let thin = TextDecorationStyle {
         stroke: Some(Stroke {
             width: 0.0,
             ..stroke()
