@@ -83,19 +83,27 @@ fn same(bits: u32, what: &str, ours: &str, theirs: &str) {
     }
 }
 
+/// The bits of every `stride`th float of a range of magnitudes, with both signs.
+fn both_signs(from: u32, to: u32, stride: u32) -> impl Iterator<Item = u32> {
+    (from..=to).step_by(stride as usize).flat_map(|size| [size, size | SIGN])
+}
+
+/// What a call showed.
+fn shown(accepted: bool, numeral: &Numeral) -> &str {
+    if accepted { numeral.text() } else { "(refused)" }
+}
+
 fn check_bare(from: u32, to: u32, stride: u32) -> u64 {
     let mut numeral = Numeral::new();
     let mut text = String::new();
     let mut count = 0;
-    for size in (from..=to).step_by(stride as usize) {
-        for bits in [size, size | SIGN] {
-            let x = f32::from_bits(bits);
-            text.clear();
-            write!(text, "{}", x).unwrap();
-            let accepted = unsafe { digits_bare(x, &mut numeral) };
-            same(bits, "bare", if accepted { numeral.text() } else { "(refused)" }, &text);
-            count += 1;
-        }
+    for bits in both_signs(from, to, stride) {
+        let x = f32::from_bits(bits);
+        text.clear();
+        write!(text, "{}", x).unwrap();
+        let accepted = unsafe { digits_bare(x, &mut numeral) };
+        same(bits, "bare", shown(accepted, &numeral), &text);
+        count += 1;
     }
     count
 }
@@ -104,17 +112,15 @@ fn check_rounded(from: u32, to: u32, stride: u32) -> u64 {
     let mut numeral = Numeral::new();
     let mut text = String::new();
     let mut count = 0;
-    for size in (from..=to).step_by(stride as usize) {
-        for bits in [size, size | SIGN] {
-            let x = f32::from_bits(bits);
-            for precision in 0..9u8 {
-                text.clear();
-                write_num(x, &mut text, precision);
-                let accepted = unsafe { digits_rounded(x, precision, &mut numeral) };
-                same(bits, "rounded", if accepted { numeral.text() } else { "(refused)" }, &text);
-            }
-            count += 1;
+    for bits in both_signs(from, to, stride) {
+        let x = f32::from_bits(bits);
+        for precision in 0..9u8 {
+            text.clear();
+            write_num(x, &mut text, precision);
+            let accepted = unsafe { digits_rounded(x, precision, &mut numeral) };
+            same(bits, "rounded", shown(accepted, &numeral), &text);
         }
+        count += 1;
     }
     count
 }
