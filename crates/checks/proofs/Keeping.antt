@@ -1,5 +1,5 @@
 -- Each entry's verdict accepts exactly when the entry keeps its rule, and a fault has that rule's number.
-use Rattle.std.proofs.Common.{◌≡◌, ℕ, ◌+◌, ◌<◌, ◌≤◌, Bool, true, false, cond, not, ◌&&◌, eqb, ltb, leb, ◌⊎◌, List, [], ◌∷◌, length, get_or, Ok, Err, Decides, Option, sym, refl, ap, ◌∙◌, inl, inr, arith}
+use Rattle.std.proofs.Common.{◌≡◌, ℕ, ◌+◌, ◌<◌, ◌≤◌, Bool, true, false, cond, not, ◌&&◌, eqb, ltb, leb, ◌⊎◌, List, [], ◌∷◌, length, get_or, Ok, Err, Decides, sym, refl, ap, ◌∙◌, inl, inr, arith}
 use Rattle.std.specs.List.{AllByRecursion as All}
 use Rattle.std.proofs.lemmas.Bool.{false≢true, ltb-true, ltb-false, leb-true, leb-false, eqb-true, eqb-false, lt-ltb, le-ltb, le-leb, lt-leb, eq-eqb, ne_eqb}
 use Rattle.drawing.specs.declared.faults.ValueFault.{ValueFault}
@@ -10,15 +10,12 @@ use Rattle.drawing.specs.Faults.{value_number}
 use Rattle.drawing.specs.declared.rows.PathSegment.{PathSegment}
 use Rattle.drawing.specs.declared.rows.PathSegment.TheVariants.{MoveTo, LineTo, QuadTo, CubicTo, Close}
 use Rattle.checks.specs.declared.numbers.Domain.{Domain}
-use Rattle.checks.specs.Verdicts.{Verdict, every, recast, verdict_of, accepts}
-use Rattle.checks.specs.declared.entries.Rule.{Rule}
-use Rattle.drawing.specs.declared.names.AId.{AId}
-use Rattle.drawing.specs.declared.faults.AttributeFault.{AttributeFault}
+use Rattle.checks.specs.Verdicts.{Verdict, every, verdict_of, accepts}
 use Rattle.checks.specs.Ids.{id_byte, id_bytes, id_verdict, reference_verdict, between}
 use Rattle.checks.specs.Numbers.{shown_in, in_range, number_verdict}
 use Rattle.checks.specs.Texts.{text_stands, span_lies, character_bound}
 use Rattle.checks.specs.Families.{plain_bytes}
-use Rattle.checks.specs.Entries.{Entry, row_in, place_in, at_most, own_id, referenced_id, not_empty, begins_with_move, number_in, below, text_of, span_of, family_name, rule_of, rule_number, lies, moves_first, entry_verdict, in_field, judged}
+use Rattle.checks.specs.Entries.{Entry, row_in, place_in, at_most, own_id, referenced_id, not_empty, begins_with_move, number_in, text_of, span_of, family_name, rule_of, rule_number, lies, moves_first, entry_verdict}
 use Rattle.checks.specs.Sound.{Id, CharacterBound, Keeps}
 use Rattle.checks.proofs.Scans.{decides_text}
 use lib.Ieee.{Float}
@@ -89,11 +86,6 @@ decides_number domain x = go (shown_in domain x) (in_range domain x)
     go true false = ((λ e. absurd (false≢true e)), (λ k. k.1))
     go false b = ((λ e. absurd (false≢true e)), (λ k. k.0))
 
-decides_below : (bound : ℕ) (parts : List ℕ) → Decides (every (λ n. ltb n bound) parts) (All (λ n. n < bound) parts)
-unfolding every
-decides_below bound [] = ((λ _. tt), (λ _. refl))
-decides_below bound (n ∷ parts) = decides_and (ltb n bound) _ _ _ (decides_lt n bound) (decides_below bound parts)
-
 -- ---- a span's bounds
 
 decides_outside : (b : ℕ) → Decides (not (between 0x80 0xBF b)) ((b < 0x80) ⊎ (0xBF < b))
@@ -130,7 +122,6 @@ decides_entry (referenced_id bytes) = decides_reference bytes
 decides_entry (not_empty count) = decides_verdict _ _ _ (decides_lt 0 count)
 decides_entry (begins_with_move segments) = decides_verdict _ _ _ (decides_move segments)
 decides_entry (number_in domain x) = decides_number domain x
-decides_entry (below bound parts) = decides_verdict _ _ _ (decides_below bound parts)
 decides_entry (text_of bytes) = decides_verdict _ _ _ (decides_text bytes (text_stands bytes) refl)
 decides_entry (span_of bytes start end) =
     decides_verdict _ _ _ (decides_and _ _ _ _ (decides_le start end) (decides_and _ _ _ _ (decides_bound bytes start) (decides_bound bytes end)))
@@ -177,17 +168,6 @@ entry_fault (referenced_id bytes) v k = reference_fault bytes v k
 entry_fault (not_empty count) v k = verdict_fault _ _ v k
 entry_fault (begins_with_move segments) v k = verdict_fault _ _ v k
 entry_fault (number_in domain x) v k = number_fault domain x v k
-entry_fault (below bound parts) v k = verdict_fault _ _ v k
 entry_fault (text_of bytes) v k = verdict_fault _ _ v k
 entry_fault (span_of bytes start end) v k = verdict_fault _ _ v k
 entry_fault (family_name bytes) v k = verdict_fault _ _ v k
-
--- an entry that keeps its rule passes, whatever rule is tested
-pub passes : (rule : Rule) (attribute : Option AId) (e : Entry) → Keeps e → judged rule attribute e ≡ Ok tt
-unfolding judged
-passes rule attribute e k = go (eqb (rule_number rule) (rule_number (rule_of e))) (entry_verdict e) ((decides_entry e).1 k)
-  where
-    go : (b : Bool) (v : Verdict ValueFault) → accepts v ≡ true → ◌≡◌ {A = Verdict AttributeFault} (cond b (recast (in_field attribute) v) (Ok tt)) (Ok tt)
-    go true (Ok tt) h = refl
-    go true (Err f) h = absurd (false≢true h)
-    go false v h = refl

@@ -1,9 +1,8 @@
 -- The entries of a row: each a value that one rule looks at.
-use Rattle.std.specs.Prelude.{ℕ, ◌+◌, Bool, true, false, cond, ltb, List, [], ◌∷◌, Ok, Err, Option, ◌==◌, nat_le, nat_lt, Float}
+use Rattle.std.specs.Prelude.{ℕ, ◌+◌, Bool, true, false, cond, List, [], ◌∷◌, Ok, Err, Option, ◌==◌, nat_le, nat_lt, Float}
 use Rattle.drawing.specs.declared.names.AId.{AId}
 use Rattle.drawing.specs.declared.faults.ValueFault.{ValueFault}
 use Rattle.drawing.specs.declared.faults.ValueFault.TheVariants as fault
-use Rattle.drawing.specs.declared.faults.NumberFault.TheVariants.{OutOfRange}
 use Rattle.drawing.specs.declared.faults.AttributeFault.{AttributeFault}
 use Rattle.drawing.specs.declared.rows.Place.{Place}
 use Rattle.drawing.specs.declared.rows.PathSegment.{PathSegment}
@@ -11,7 +10,7 @@ use Rattle.drawing.specs.declared.rows.PathSegment.TheVariants.{MoveTo, LineTo, 
 use Rattle.checks.specs.declared.numbers.Domain.{Domain}
 use Rattle.checks.specs.declared.entries.Rule.{Rule}
 use Rattle.checks.specs.declared.entries.Rule.TheVariants as rule
-use Rattle.checks.specs.Verdicts.{Verdict, every, before, recast, verdict_of}
+use Rattle.checks.specs.Verdicts.{Verdict, before, recast, verdict_of}
 use Rattle.checks.specs.Ids.{id_verdict, reference_verdict}
 use Rattle.checks.specs.Numbers.{number_verdict}
 use Rattle.checks.specs.Texts.{text_stands, span_lies}
@@ -26,7 +25,6 @@ pub data Entry : Type 0 where
   not_empty : ℕ → Entry  -- a count
   begins_with_move : List PathSegment → Entry
   number_in : Domain → Float → Entry
-  below : ℕ → List ℕ → Entry  -- a bound, and whole numbers that their types keep below it
   text_of : List ℕ → Entry
   span_of : List ℕ → ℕ → ℕ → Entry  -- a text, where a span of it starts and ends
   family_name : List ℕ → Entry
@@ -41,7 +39,6 @@ rule_of (referenced_id bytes) = rule.Id
 rule_of (not_empty count) = rule.Empty
 rule_of (begins_with_move segments) = rule.Empty
 rule_of (number_in domain x) = rule.Number
-rule_of (below bound parts) = rule.Number
 rule_of (text_of bytes) = rule.Text
 rule_of (span_of bytes start end) = rule.Text
 rule_of (family_name bytes) = rule.Family
@@ -77,7 +74,6 @@ entry_verdict (referenced_id bytes) = reference_verdict bytes
 entry_verdict (not_empty count) = verdict_of (nat_lt 0 count) fault.Empty
 entry_verdict (begins_with_move segments) = verdict_of (moves_first segments) fault.Empty
 entry_verdict (number_in domain x) = number_verdict domain x
-entry_verdict (below bound parts) = verdict_of (every (λ n. ltb n bound) parts) (fault.Number OutOfRange)
 entry_verdict (text_of bytes) = verdict_of (text_stands bytes) fault.Text
 entry_verdict (span_of bytes start end) = verdict_of (span_lies bytes start end) fault.Text
 entry_verdict (family_name bytes) = verdict_of (plain_bytes bytes) fault.Family

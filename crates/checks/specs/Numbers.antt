@@ -1,7 +1,6 @@
 -- The rule for numbers.
 use Rattle.std.specs.Prelude.{Bool, true, false, cond, ◌&&◌, Ok, Err, Float}
-use Rattle.std.specs.Float.{binary32}
-use Rattle.std.specs.Float.Ieee.{fits, le, lt}
+use Rattle.std.specs.Float.Ieee.{le, lt}
 use Rattle.digits.specs.Magnitudes.{bare_domain, rounded_domain}
 use Rattle.drawing.specs.Tables.{nought, one}
 use Rattle.drawing.specs.declared.faults.ValueFault.{ValueFault}
@@ -11,14 +10,14 @@ use Rattle.checks.specs.declared.numbers.Domain.{Domain}
 use Rattle.checks.specs.declared.numbers.Domain.TheVariants.{Rounded, Bare, Fraction, AboveZero, AtLeastOne, AtLeastZero}
 use Rattle.checks.specs.Verdicts.{Verdict}
 
--- it is an f32, as every number of a drawing is, and it has a text, rounded or bare
+-- it has a text, rounded or bare
 abbrev pub shown_in : Domain → Float → Bool
-shown_in Rounded x = fits binary32 x && rounded_domain x
-shown_in Bare x = fits binary32 x && bare_domain x
-shown_in Fraction x = fits binary32 x && bare_domain x
-shown_in AboveZero x = fits binary32 x && bare_domain x
-shown_in AtLeastOne x = fits binary32 x && bare_domain x
-shown_in AtLeastZero x = fits binary32 x && bare_domain x
+shown_in Rounded x = rounded_domain x
+shown_in Bare x = bare_domain x
+shown_in Fraction x = bare_domain x
+shown_in AboveZero x = bare_domain x
+shown_in AtLeastOne x = bare_domain x
+shown_in AtLeastZero x = bare_domain x
 
 -- its attribute takes it
 abbrev pub in_range : Domain → Float → Bool

@@ -4,9 +4,8 @@ use Rattle.drawing.specs.declared.names.AId.{AId}
 use Rattle.drawing.specs.declared.names.AId.TheVariants as attribute
 use Rattle.drawing.specs.declared.rows.Place.{Place}
 use Rattle.drawing.specs.declared.rows.Transform.{Transform}
-use Rattle.drawing.specs.declared.rows.Color.{Color}
 use Rattle.drawing.specs.declared.rows.Paint.{Paint}
-use Rattle.drawing.specs.declared.rows.Paint.TheVariants as paint
+use Rattle.drawing.specs.declared.rows.Paint.TheVariants.{Color, LinearGradient, RadialGradient, Pattern}
 use Rattle.drawing.specs.declared.rows.Fill.{Fill}
 use Rattle.drawing.specs.declared.rows.Stroke.{Stroke}
 use Rattle.drawing.specs.declared.rows.Group.{Group}
@@ -34,7 +33,7 @@ use Rattle.drawing.specs.declared.tables.Drawing.{Drawing}
 use Rattle.drawing.specs.Tables.{entries, pool_part, group_at, path_at, image_at, text_at, gradient_at}
 use Rattle.checks.specs.declared.numbers.Domain.{Domain}
 use Rattle.checks.specs.declared.numbers.Domain.TheVariants.{Rounded, Bare, Fraction, AboveZero, AtLeastOne, AtLeastZero}
-use Rattle.checks.specs.Entries.{Fields, none, field, ◌then◌, each, row_in, place_in, at_most, own_id, referenced_id, not_empty, begins_with_move, number_in, below, text_of, span_of, family_name}
+use Rattle.checks.specs.Entries.{Fields, none, field, ◌then◌, each, row_in, place_in, at_most, own_id, referenced_id, not_empty, begins_with_move, number_in, text_of, span_of, family_name}
 
 -- ---- what rows have in common
 
@@ -81,15 +80,11 @@ transform_fields name t =
 
 -- ---- paints
 
--- the parts of a colour are bytes
-abbrev pub color_fields : AId → Color → Fields
-color_fields name c = field (Some name) (below 256 (c.red ∷ c.green ∷ c.blue ∷ []))
-
 abbrev pub paint_fields : Drawing → AId → Paint → Fields
-paint_fields d name (paint.Color color) = color_fields name color
-paint_fields d name (paint.LinearGradient p) = reference_fields d name p
-paint_fields d name (paint.RadialGradient p) = reference_fields d name p
-paint_fields d name (paint.Pattern p) = reference_fields d name p
+paint_fields d name (Color color) = none
+paint_fields d name (LinearGradient p) = reference_fields d name p
+paint_fields d name (RadialGradient p) = reference_fields d name p
+paint_fields d name (Pattern p) = reference_fields d name p
 
 abbrev pub fill_fields : Drawing → Option Fill → Fields
 fill_fields d None = none
@@ -198,10 +193,6 @@ shifts_fields d p =
     then field None (place_in (length d.shifts.now) p)
     then each_shift (entries d.shifts.now p)
 
--- a weight is a number of 16 bits
-abbrev pub weight_fields : ℕ → Fields
-weight_fields weight = field (Some attribute.FontWeight) (below 65536 (weight ∷ []))
-
 -- a span of a chunk that has this text
 abbrev pub span_fields : Drawing → List ℕ → TextSpan → Fields
 span_fields d bytes s =
@@ -209,7 +200,6 @@ span_fields d bytes s =
     then fill_fields d s.fill
     then stroke_fields d s.stroke
     then families_fields d s.font.families
-    then weight_fields s.font.weight
     then number_field attribute.FontSize AboveZero s.font_size
     then decoration_fields d s.decoration.underline
     then decoration_fields d s.decoration.overline
@@ -262,10 +252,7 @@ abbrev pub node_fields : Drawing → Node → Fields
 node_fields d n = kind_fields d n.kind n.row
 
 abbrev pub stop_fields : Stop → Fields
-stop_fields s =
-    number_field attribute.Offset Fraction s.offset
-    then color_fields attribute.StopColor s.color
-    then number_field attribute.StopOpacity Fraction s.opacity
+stop_fields s = number_field attribute.Offset Fraction s.offset then number_field attribute.StopOpacity Fraction s.opacity
 
 abbrev pub each_stop : List Stop → Fields
 each_stop stops = each stop_fields stops

@@ -22,7 +22,7 @@ use Rattle.checks.specs.Ids.{id_byte}
 use Rattle.checks.specs.Numbers.{shown_in, in_range}
 use Rattle.checks.specs.Texts.{Text}
 use Rattle.checks.specs.Families.{plain_byte}
-use Rattle.checks.specs.Entries.{Entry, row_in, place_in, at_most, own_id, referenced_id, not_empty, begins_with_move, number_in, below, text_of, span_of, family_name, rule_of, rule_number, Fields, none, field, ◌then◌}
+use Rattle.checks.specs.Entries.{Entry, row_in, place_in, at_most, own_id, referenced_id, not_empty, begins_with_move, number_in, text_of, span_of, family_name, rule_of, rule_number, Fields, none, field, ◌then◌}
 use Rattle.checks.specs.Rows.{node_fields, gradient_fields}
 use Rattle.checks.specs.Calls.{draw_verdict, gradient_verdict}
 
@@ -46,7 +46,6 @@ Keeps (referenced_id bytes) = (0 < length bytes) × Id bytes
 Keeps (not_empty count) = 0 < count
 Keeps (begins_with_move segments) = (p : Point) × (others : List PathSegment) × (segments ≡ MoveTo p ∷ others)
 Keeps (number_in domain x) = (shown_in domain x ≡ true) × (in_range domain x ≡ true)
-Keeps (below bound parts) = All (λ n. n < bound) parts
 Keeps (text_of bytes) = Text bytes
 Keeps (span_of bytes start end) = (start ≤ end) × (CharacterBound bytes start × CharacterBound bytes end)
 Keeps (family_name bytes) = All (λ b. plain_byte b ≡ true) bytes

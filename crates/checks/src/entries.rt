@@ -3,9 +3,9 @@
 //! A row is walked once for each rule. So every function here and in the modules of the rows takes the rule that is being
 //! tested, and lets pass what another rule looks at; and a row's fields stand in one place, in their order.
 
-ghost use Rattle.std.specs.Prelude.{◌≡◌, Bool, true, false, [], ◌∷◌, Some, None, ◌==◌};
+ghost use Rattle.std.specs.Prelude.{◌≡◌, Bool, true, false, Some, None, ◌==◌};
 ghost use Rattle.checks.specs.Verdicts.{recast, verdict_of};
-ghost use Rattle.checks.specs.Entries.{in_field, judged, rule_number, lies, moves_first, row_in, place_in, at_most, own_id, referenced_id, not_empty, begins_with_move, number_in, below, text_of, span_of, family_name};
+ghost use Rattle.checks.specs.Entries.{in_field, judged, rule_number, lies, moves_first, row_in, place_in, at_most, own_id, referenced_id, not_empty, begins_with_move, number_in, text_of, span_of, family_name};
 
 use crate::families::has_plain_bytes;
 use crate::ids::{id, reference};
@@ -14,7 +14,7 @@ use crate::texts::{is_span, is_text};
 use crate::verdicts::found_at;
 use drawing::faults::{AttributeFault, ValueFault};
 use drawing::names::AId;
-use drawing::rows::{Color, PathSegment, Place};
+use drawing::rows::{PathSegment, Place};
 
 /// The rules that look at the values of a row, in their order.
 #[derive(Clone, Copy)]
@@ -178,20 +178,6 @@ pub fn check_number(
         return Ok(());
     }
     field(Some(attribute), number(domain, x))
-}
-
-/// The parts of a colour. They are bytes, so nothing is to be tested; the contract says it of the definition.
-pub fn check_color(rule: Rule, attribute: AId, color: Color) -> Result<(), AttributeFault>
-    ensures { result ≡ judged rule (Some attribute) (below 256 (color.red ∷ color.green ∷ color.blue ∷ [])) }
-{
-    Ok(())
-}
-
-/// A font weight. It has 16 bits, so nothing is to be tested here either.
-pub fn check_weight(rule: Rule, attribute: AId, weight: u16) -> Result<(), AttributeFault>
-    ensures { result ≡ judged rule (Some attribute) (below 65536 (weight ∷ [])) }
-{
-    Ok(())
 }
 
 /// A text, which stands in an attribute or between tags.

@@ -7,8 +7,7 @@ ghost use Rattle.checks.specs.Entries.{first_at};
 ghost use Rattle.checks.specs.Rows.{number_if_any, pool_fields, id_fields, reference_fields, reference_if_any, text_fields, each_number, number_list, transform_fields, paint_fields, fill_fields, dash_fields, stroke_fields};
 
 use crate::entries::{
-    Rule, check_color, check_not_empty, check_number, check_own_id, check_place,
-    check_referenced_id, check_text,
+    Rule, check_not_empty, check_number, check_own_id, check_place, check_referenced_id, check_text,
 };
 use crate::numbers::Domain;
 use drawing::faults::AttributeFault;
@@ -133,7 +132,7 @@ fn check_paint(
     ensures { result ≡ first_at rule (paint_fields drawing.now attribute paint) }
 {
     match paint {
-        Paint::Color(color) => check_color(rule, attribute, color),
+        Paint::Color(_) => Ok(()),
         Paint::LinearGradient(id) => check_reference(drawing, rule, attribute, id),
         Paint::RadialGradient(id) => check_reference(drawing, rule, attribute, id),
         Paint::Pattern(id) => check_reference(drawing, rule, attribute, id),

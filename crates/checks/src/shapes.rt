@@ -4,7 +4,7 @@ ghost use Rattle.std.specs.Prelude.{◌≡◌};
 ghost use Rattle.checks.specs.Entries.{first_at};
 ghost use Rattle.checks.specs.Rows.{filter_fields, group_fields, point_fields, segment_fields, each_segment, path_fields, image_fields, stop_fields, each_stop, base_gradient_fields};
 
-use crate::entries::{Rule, check_begins_with_move, check_color, check_number, check_place};
+use crate::entries::{Rule, check_begins_with_move, check_number, check_place};
 use crate::numbers::Domain;
 use crate::paints::{
     check_fill, check_id, check_pool_text, check_reference, check_reference_if_any, check_stroke,
@@ -95,7 +95,6 @@ fn check_stop(rule: Rule, stop: Stop) -> Result<(), AttributeFault>
     ensures { result ≡ first_at rule (stop_fields stop) }
 {
     check_number(rule, AId::Offset, Domain::Fraction, stop.offset)?;
-    check_color(rule, AId::StopColor, stop.color)?;
     check_number(rule, AId::StopOpacity, Domain::Fraction, stop.opacity)
 }
 

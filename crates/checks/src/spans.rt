@@ -6,7 +6,6 @@ ghost use Rattle.checks.specs.Rows.{family_fields, each_family, families_fields,
 
 use crate::entries::{
     Rule, check_count, check_family_name, check_not_empty, check_number, check_place, check_span,
-    check_weight,
 };
 use crate::numbers::Domain;
 use crate::paints::{
@@ -116,7 +115,6 @@ fn check_text_span(
     check_fill(drawing, rule, span.fill)?;
     check_stroke(drawing, rule, span.stroke)?;
     check_families(drawing, rule, span.font.families)?;
-    check_weight(rule, AId::FontWeight, span.font.weight)?;
     check_number(rule, AId::FontSize, Domain::AboveZero, span.font_size)?;
     check_decoration(drawing, rule, span.decoration.underline)?;
     check_decoration(drawing, rule, span.decoration.overline)?;

@@ -6,7 +6,7 @@ use lib.Ieee.{Float, nan, inf, fin, binary32, up, down, size, round, units, odd,
 use lib.Ieee.Fits.{round_is}
 use lib.Ieee.Exact.{HasValue}
 use lib.Ieee.Order.{drop, kept}
-use Rattle.std.proofs.lemmas.Bool.{cond_true, cond_false, eq-eqb, ne_eqb, and_parts, or_cases, eqb-true}
+use Rattle.std.proofs.lemmas.Bool.{cond-true, cond-false, eq-eqb, ne_eqb, and_parts, or_cases, eqb-true}
 use Rattle.std.specs.Float.{is_sign_negative, float_with_sign}
 use Rattle.digits.specs.Decimals as text
 use Rattle.digits.specs.Decimals.{minus, places, spelling}
@@ -112,11 +112,11 @@ in_domain x h =
 
 bare_zero : (x : Float) → grains x ≡ 0 → bare x ≡ spelling (is_sign_negative x) 0 0
 unfolding bare
-bare_zero x e = cond_true (eqb (grains x) 0) (spelling (is_sign_negative x) 0 0) (shortest_text x) (eq-eqb (grains x) 0 e)
+bare_zero x e = cond-true (eqb (grains x) 0) (spelling (is_sign_negative x) 0 0) (shortest_text x) (eq-eqb (grains x) 0 e)
 
 bare_some : (x : Float) → (grains x ≡ 0 → ⊥) → bare x ≡ spelling (is_sign_negative x) (best_at x (coarsest x) * tens_above (coarsest x)) (coarsest x - 12)
 unfolding bare
-bare_some x e = cond_false (eqb (grains x) 0) (spelling (is_sign_negative x) 0 0) (shortest_text x) (ne_eqb (grains x) 0 e)
+bare_some x e = cond-false (eqb (grains x) 0) (spelling (is_sign_negative x) 0 0) (shortest_text x) (ne_eqb (grains x) 0 e)
 
 pub parts_some : {x : Float} {s : Bool} {M j : ℕ} → Parts x s M j → grains x ≡ 0 → ⊥
 parts_some {x} {s} {M} {j} p z =

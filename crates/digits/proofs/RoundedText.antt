@@ -7,7 +7,7 @@ use lib.Ieee.Exact.{HasValue}
 use lib.Ieee.Fits.{div-fits}
 use lib.Ieee.Order.{drop, kept, round_mono}
 use lib.Ieee.Scale.{round_same}
-use Rattle.std.proofs.lemmas.Bool.{cases_lt, cases_Bool, cond_true, cond_false, eq-eqb, ne_eqb, and_from, or_left, or_right}
+use Rattle.std.proofs.lemmas.Bool.{cases_lt, cases_Bool, cond-true, cond-false, eq-eqb, ne_eqb, and_from, or_left, or_right}
 use Rattle.std.specs.Float.{is_sign_negative, float_with_sign, float_round}
 use Rattle.digits.specs.Decimals.{nearest_float}
 use Rattle.digits.specs.Magnitudes.{grains, apart, nought, least, most, bare_domain, rounded_domain}
@@ -185,7 +185,7 @@ same_side false = refl
 pub distance_same : (x y : Float) (s : Bool) (a b : ℕ) → HasValue x s a (2 ^ 149) → HasValue y s b (2 ^ 149) → distance x y ≡ apart a b
 distance_same x y s a b v w =
     let e : beq (is_sign_negative x) (is_sign_negative y) ≡ true = ap (λ (z : Bool). beq z (is_sign_negative y)) (sign_of x s a (2 ^ 149) v) ∙ ap (λ (z : Bool). beq s z) (sign_of y s b (2 ^ 149) w) ∙ same_side s in
-    cond_true (beq (is_sign_negative x) (is_sign_negative y)) (apart (grains x) (grains y)) (grains x + grains y) e
+    cond-true (beq (is_sign_negative x) (is_sign_negative y)) (apart (grains x) (grains y)) (grains x + grains y) e
     ∙ ap (λ (z : ℕ). apart z (grains y)) (grains_of x s a v) ∙ ap (λ (z : ℕ). apart a z) (grains_of y s b w)
 
 distance_zero : (x y : Float) (s t : Bool) (a : ℕ) → HasValue x s a (2 ^ 149) → HasValue y t 0 (2 ^ 149) → distance x y ≡ a
@@ -253,11 +253,11 @@ whole_close x s a p v d h l r = elim (eq-zero-or-pos (a / 2 ^ 149)) [
 -- ---- the theorem
 pub rounded_whole : (p : ℕ) (x : Float) → is_whole x ≡ true → rounded p x ≡ whole_text x
 unfolding rounded
-rounded_whole p x e = cond_true (is_whole x) (whole_text x) (bare (rounded_value p x)) e
+rounded_whole p x e = cond-true (is_whole x) (whole_text x) (bare (rounded_value p x)) e
 
 pub rounded_other : (p : ℕ) (x : Float) → is_whole x ≡ false → rounded p x ≡ bare (rounded_value p x)
 unfolding rounded
-rounded_other p x e = cond_false (is_whole x) (whole_text x) (bare (rounded_value p x)) e
+rounded_other p x e = cond-false (is_whole x) (whole_text x) (bare (rounded_value p x)) e
 
 whole_stands : (x : Float) (p : ℕ) → T (fits binary32 x) → rounded_domain x ≡ true → p ≤ 8 → is_whole x ≡ true → RoundedWell p x (whole_text x)
 whole_stands x p f h l w =

@@ -5,7 +5,7 @@ use lib.Ieee.{Float, nan, inf, fin, binary32, up, down, round, mul, div, unlike,
 use lib.Ieee.Fits.{down_pos, round_is}
 use lib.Ieee.Order.{drop, kept}
 use lib.Ieee.Exact.{HasValue, units_val}
-use Rattle.std.proofs.lemmas.Bool.{cond_false, ne_eqb}
+use Rattle.std.proofs.lemmas.Bool.{cond-false, ne_eqb}
 use Rattle.std.specs.Float.{round_with, float_round, ratio_round_half_up}
 use Rattle.digits.specs.Rounded.{power_of_ten}
 use Rattle.digits.proofs.ReadsBack.{rounded_grains}
@@ -151,7 +151,7 @@ quotient (fin u m e) (fin z n d) s a t P v w =
     record {
       num = num;
       den = den;
-      is = cond_false (eqb n 0) (cond (eqb m 0) nan (inf (unlike u z))) (round binary32 (unlike u z) num den) (ne_eqb n 0 nz)
+      is = cond-false (eqb n 0) (cond (eqb m 0) nan (inf (unlike u z))) (round binary32 (unlike u z) num den) (ne_eqb n 0 nz)
           ∙ ap (λ (k : Bool). round binary32 k num den) (ap (λ (k : Bool). unlike u k) w.0 ∙ like u ∙ v.0);
       some = mul-pos pos (down_pos e);
       ratio = mul_right_comm (m * up e * down d) L t ∙ regroup (m * up e) (down d) t ∙ ap (λ (k : ℕ). k * (t * down d)) v.1 ∙ ap (λ (k : ℕ). a * down e * k) (sym N) ∙ swap a (down e) (n * up d);

@@ -1,5 +1,5 @@
 -- The theorem on whole numbers: the text says the number, and no other plain text without minus or point does.
-use Rattle.std.proofs.Common.{◌≡◌, ℕ, ◌/◌, ◌^◌, ◌<◌, Bool, false, List, decimal, sym, ap, ◌∙◌, subst, append_nil, div-one, arith}
+use Rattle.std.proofs.Common.{◌≡◌, ℕ, ◌/◌, ◌^◌, ◌<◌, Bool, false, List, decimal, sym, ap, ◌∙◌, subst, append-nil, div-one, arith}
 use Rattle.digits.specs.Decimals.{units, places, spelling}
 use Rattle.digits.specs.Theorems.{SaysWhole, WholeStands}
 use Rattle.digits.proofs.Texts.{Lowest, spelling_plain, spelling_says, plain_spelling}
@@ -8,7 +8,7 @@ no_places : (n : ℕ) → Lowest n 0
 no_places n h z = omega arith
 
 spelling_whole : (n : ℕ) → spelling false n 0 ≡ decimal n
-spelling_whole n = append_nil (decimal (n / 1)) ∙ ap decimal (div-one n)
+spelling_whole n = append-nil (decimal (n / 1)) ∙ ap decimal (div-one n)
 
 pub whole_stands : WholeStands
 whole_stands n h =

@@ -1,6 +1,6 @@
 use Rattle.std.specs.Prelude.{ℕ, List, codes}
 use Rattle.drawing.specs.declared.names.AId.{AId}
-use Rattle.drawing.specs.declared.names.AId.TheVariants.{Id, Transform, Opacity, ClipPath, Mask, Filter, Fill, FillOpacity, Stroke, StrokeDasharray, StrokeDashoffset, StrokeMiterlimit, StrokeOpacity, StrokeWidth, D, Width, Height, Href, Dx, Dy, Rotate, X, Y, StartOffset, FontFamily, FontSize, BaselineShift, LetterSpacing, WordSpacing, TextLength, GradientTransform, Offset, StopOpacity, FillRule, StrokeLinecap, StrokeLinejoin, Visibility, PaintOrder, ShapeRendering, ImageRendering, TextRendering, Style, Space, WritingMode, TextAnchor, TextDecoration, FontStyle, FontWeight, FontStretch, FontVariant, LengthAdjust, DominantBaseline, AlignmentBaseline, GradientUnits, SpreadMethod, StopColor}
+use Rattle.drawing.specs.declared.names.AId.TheVariants.{Id, Transform, Opacity, ClipPath, Mask, Filter, Fill, FillOpacity, Stroke, StrokeDasharray, StrokeDashoffset, StrokeMiterlimit, StrokeOpacity, StrokeWidth, D, Width, Height, Href, Dx, Dy, Rotate, X, Y, StartOffset, FontFamily, FontSize, BaselineShift, LetterSpacing, WordSpacing, TextLength, GradientTransform, Offset, StopOpacity}
 
 -- each attribute's name as it is written; shut, so that a goal has the name and not its letters
 unfoldable pub attribute_name : AId → List ℕ
@@ -37,26 +37,3 @@ attribute_name TextLength = codes "textLength"
 attribute_name GradientTransform = codes "gradientTransform"
 attribute_name Offset = codes "offset"
 attribute_name StopOpacity = codes "stop-opacity"
-attribute_name FillRule = codes "fill-rule"
-attribute_name StrokeLinecap = codes "stroke-linecap"
-attribute_name StrokeLinejoin = codes "stroke-linejoin"
-attribute_name Visibility = codes "visibility"
-attribute_name PaintOrder = codes "paint-order"
-attribute_name ShapeRendering = codes "shape-rendering"
-attribute_name ImageRendering = codes "image-rendering"
-attribute_name TextRendering = codes "text-rendering"
-attribute_name Style = codes "style"
-attribute_name Space = codes "xml:space"
-attribute_name WritingMode = codes "writing-mode"
-attribute_name TextAnchor = codes "text-anchor"
-attribute_name TextDecoration = codes "text-decoration"
-attribute_name FontStyle = codes "font-style"
-attribute_name FontWeight = codes "font-weight"
-attribute_name FontStretch = codes "font-stretch"
-attribute_name FontVariant = codes "font-variant"
-attribute_name LengthAdjust = codes "lengthAdjust"
-attribute_name DominantBaseline = codes "dominant-baseline"
-attribute_name AlignmentBaseline = codes "alignment-baseline"
-attribute_name GradientUnits = codes "gradientUnits"
-attribute_name SpreadMethod = codes "spreadMethod"
-attribute_name StopColor = codes "stop-color"

@@ -35,6 +35,6 @@ pub returns-in-7 : goal.returns-in-7
 unfolding of_bits of_int
 returns-in-7 c = ap power_of_ten (sym c.in-7.is)
 
-pub returns-in-default : goal.returns-in-default
+pub returns-in_default : goal.returns-in_default
 unfolding of_bits of_int
-returns-in-default c = let e : c.args.precision ≡ 8 = omega arith in ap power_of_ten (sym e)
+returns-in_default c = let e : c.args.precision ≡ 8 = omega arith in ap power_of_ten (sym e)

@@ -8,11 +8,11 @@ use Rattle.digits.proofs.showing.rounded_text.Goals as goal
 pub shortest-requires : goal.shortest-requires
 shortest-requires c =
     subst (λ (z : Float). bare_domain z ≡ true) (sym c.rounded_value.ensures)
-    (other_domain c.args.x c.args.precision (subst T (sym c.well_formed.0.1) tt) c.requires.number c.requires.setting (sym c.if-counts-as-whole.ensures))
+    (other_domain c.args.x c.args.precision (subst T (sym c.well_formed.0.1) tt) c.requires.number c.requires.setting (sym c.if-counts_as_whole.ensures))
 
-pub returns-then-counts-as-whole : goal.returns-then-counts-as-whole
-returns-then-counts-as-whole c = c.whole-text-of.ensures ∙ sym (rounded_whole c.args.precision c.args.x (sym c.if-counts-as-whole.ensures))
+pub returns-then-counts_as_whole : goal.returns-then-counts_as_whole
+returns-then-counts_as_whole c = c.whole_text_of.ensures ∙ sym (rounded_whole c.args.precision c.args.x (sym c.if-counts_as_whole.ensures))
 
-pub returns-else-counts-as-whole : goal.returns-else-counts-as-whole
-returns-else-counts-as-whole c =
-    c.shortest.ensures ∙ ap bare c.rounded_value.ensures ∙ sym (rounded_other c.args.precision c.args.x (sym c.if-counts-as-whole.ensures))
+pub returns-else-counts_as_whole : goal.returns-else-counts_as_whole
+returns-else-counts_as_whole c =
+    c.shortest.ensures ∙ ap bare c.rounded_value.ensures ∙ sym (rounded_other c.args.precision c.args.x (sym c.if-counts_as_whole.ensures))

@@ -8,13 +8,13 @@ use Rattle.digits.proofs.spelling.figures_before.Goals as goal
 pub before-requires : goal.before-requires
 before-requires c =
     let e = ap length c.loop-place.invariant.0 in
-    let a = length-append (figures c.loop-place.-place c.args.number) (text_of c.args.numeral.now) in
-    let f = length_figures c.loop-place.-place c.args.number in
+    let a = length-append (figures c.loop-place._place c.args.number) (text_of c.args.numeral.now) in
+    let f = length_figures c.loop-place._place c.args.number in
     omega arith
 
 pub loop-place-preserved : goal.loop-place-preserved
 loop-place-preserved c =
-    let k = c.loop-place.-place in
+    let k = c.loop-place._place in
     let n = c.args.number in
     let r : c.loop-place.rest ≡ n / 10 ^ k = c.loop-place.invariant.1 in
     let old = text_of c.args.numeral.now in (

@@ -15,20 +15,20 @@ length_whole n k h =
     let l = div-le_self n (10 ^ k) in
     length-decimal-le 13 (n / 10 ^ k) (lit< tt) (omega arith) (omega arith)
 
-pub whole-before-requires : goal.whole-before-requires
-whole-before-requires c =
-    let e = ap length c.fraction-before-whole-part.ensures.text in
+pub whole_before-requires : goal.whole_before-requires
+whole_before-requires c =
+    let e = ap length c.fraction_before-whole_part.ensures.text in
     let f = length_pointed c.args.places c.args.units in
     let g = length_whole c.args.units c.args.places c.requires.0 in
-    let w = ap (λ (z : ℕ). length (decimal z)) c.fraction-before-whole-part.ensures.whole in
+    let w = ap (λ (z : ℕ). length (decimal z)) c.fraction_before-whole_part.ensures.whole in
     omega arith
 
 pub before-requires : goal.before-requires
 before-requires c =
-    let e = ap length c.fraction-before-whole-part.ensures.text in
+    let e = ap length c.fraction_before-whole_part.ensures.text in
     let f = length_pointed c.args.places c.args.units in
     let g = length_whole c.args.units c.args.places c.requires.0 in
-    let w = ap (λ (z : ℕ). length (decimal z)) c.fraction-before-whole-part.ensures.whole in
-    let a = ap length c.whole-before.ensures in
-    let b = length-append (decimal c.fraction-before-whole-part.result) (text_of c.fraction-before-whole-part.new.numeral) in
+    let w = ap (λ (z : ℕ). length (decimal z)) c.fraction_before-whole_part.ensures.whole in
+    let a = ap length c.whole_before.ensures in
+    let b = length-append (decimal c.fraction_before-whole_part.result) (text_of c.fraction_before-whole_part.new.numeral) in
     omega arith

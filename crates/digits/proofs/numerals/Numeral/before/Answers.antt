@@ -9,14 +9,14 @@ room : (n : Numeral) → length n.bytes ≡ 32 → length (text_of n) < 32 → n
 unfolding text_of
 room n long h = let e = length-drop (32 - n.length) n.bytes in omega arith
 
-pub overflow-sub-place : goal.overflow-sub-place
-overflow-sub-place c = let r = room c.args.self.now (omega arith) c.requires in omega arith
+pub overflow_sub-place : goal.overflow_sub-place
+overflow_sub-place c = let r = room c.args.self.now (omega arith) c.requires in omega arith
 
-pub overflow-sub-place-2 : goal.overflow-sub-place-2
-overflow-sub-place-2 c = let r = room c.args.self.now (omega arith) c.requires in omega arith
+pub overflow_sub-place-2 : goal.overflow_sub-place-2
+overflow_sub-place-2 c = let r = room c.args.self.now (omega arith) c.requires in omega arith
 
-pub overflow-add-self : goal.overflow-add-self
-overflow-add-self c = let r = room c.args.self.now (omega arith) c.requires in omega arith
+pub overflow_add-self : goal.overflow_add-self
+overflow_add-self c = let r = room c.args.self.now (omega arith) c.requires in omega arith
 
 pub returns : goal.returns
 unfolding text_of

@@ -7,8 +7,8 @@ pub returns : goal.returns
 unfolding text_of
 returns c =
     let bytes = c.args.self.now.bytes in
-    let start = c.saturating-sub-start.result in
+    let start = c.saturating_sub-start.result in
     let long : length bytes ≡ 32 = omega arith in
     ap (λ (z : ℕ). take (z - start) (drop start bytes)) (sym long)
     ∙ take_rest bytes start
-    ∙ ap (λ (z : ℕ). drop z bytes) c.saturating-sub-start.ensures
+    ∙ ap (λ (z : ℕ). drop z bytes) c.saturating_sub-start.ensures

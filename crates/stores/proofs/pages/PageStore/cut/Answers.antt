@@ -4,8 +4,8 @@ use Rattle.stores.specs.Pages.{zeros}
 use Rattle.stores.proofs.Blanks.{blank_cut}
 use Rattle.stores.proofs.pages.PageStore.cut.Goals as goal
 
-pub invariant-of-self : goal.invariant-of-self
-invariant-of-self c =
+pub invariant_of-self : goal.invariant_of-self
+invariant_of-self c =
     let p = c.loop-self.self in
     let s = p.sized in
     let f = p.fits in

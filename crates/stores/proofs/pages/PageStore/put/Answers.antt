@@ -3,8 +3,8 @@ use Rattle.std.proofs.lemmas.List.{places, length-set, take_more_set, drop-set-l
 use Rattle.stores.proofs.Blanks.{blank_put}
 use Rattle.stores.proofs.pages.PageStore.put.Goals as goal
 
-pub invariant-of-self : goal.invariant-of-self
-invariant-of-self c =
+pub invariant_of-self : goal.invariant_of-self
+invariant_of-self c =
     let p = c.args.self.now in
     let s = p.sized in (
       s ∙ ap (λ n. min n 1048576) (sym (length-set p.buffer.now p.len c.args.byte)),

@@ -11,15 +11,15 @@ placed c =
     let k = r.counted in
     omega arith
 
-pub overflow-mul-result : goal.overflow-mul-result
-overflow-mul-result c =
+pub overflow_mul-result : goal.overflow_mul-result
+overflow_mul-result c =
     let r = c.args.self.now in
     let s = spot r.records c.args.place (placed c) in
     let i = in_reach r.records r.buffer.now r.sized in
     omega arith
 
-pub overflow-add-result-2 : goal.overflow-add-result-2
-overflow-add-result-2 c =
+pub overflow_add-result-2 : goal.overflow_add-result-2
+overflow_add-result-2 c =
     let r = c.args.self.now in
     let s = spot r.records c.args.place (placed c) in
     let i = in_reach r.records r.buffer.now r.sized in

@@ -12,15 +12,15 @@ turn r count t =
     let l : length (roll_text r.records r.buffer.now) ≡ r.len - 1 + 1 = omega arith in
     shorter r.records (r.len - 1) r.buffer.now r.laid l
 
-pub overflow-mul-record : goal.overflow-mul-record
-overflow-mul-record c =
+pub overflow_mul-record : goal.overflow_mul-record
+overflow_mul-record c =
     let r = c.loop-self.self in
     let i = in_reach r.records r.buffer.now r.sized in
     let s = (turn c.loop-self.self c.args.count c.loop-self-test.true).at in
     omega arith
 
-pub overflow-add-self-in-loop-self : goal.overflow-add-self-in-loop-self
-overflow-add-self-in-loop-self c =
+pub overflow_add-self-in-loop-self : goal.overflow_add-self-in-loop-self
+overflow_add-self-in-loop-self c =
     let r = c.loop-self.self in
     let i = in_reach r.records r.buffer.now r.sized in
     let s = (turn c.loop-self.self c.args.count c.loop-self-test.true).at in
@@ -33,8 +33,8 @@ bounds-self-record c =
     let s = (turn c.loop-self.self c.args.count c.loop-self-test.true).at in
     omega arith
 
-pub invariant-of-self : goal.invariant-of-self
-invariant-of-self c =
+pub invariant_of-self : goal.invariant_of-self
+invariant_of-self c =
     let r = c.loop-self.self in
     let s = turn c.loop-self.self c.args.count c.loop-self-test.true in
     let last = r.len - 1 in
@@ -51,8 +51,8 @@ bounds-self-record-in-loop-self c =
     let s = (turn c.loop-self.self c.args.count c.loop-self-test.true).at in
     rw length-set (omega arith)
 
-pub invariant-of-self-in-loop-self : goal.invariant-of-self-in-loop-self
-invariant-of-self-in-loop-self c =
+pub invariant_of-self-in-loop-self : goal.invariant_of-self-in-loop-self
+invariant_of-self-in-loop-self c =
     let r = c.loop-self.self in
     let s = turn c.loop-self.self c.args.count c.loop-self-test.true in
     let last = r.len - 1 in

@@ -13,8 +13,8 @@ returns-then-self c =
     record { sized = refl; cases = (omega arith, refl); beyond = refl }
 
 -- first the count, over a zero byte
-pub invariant-of-self : goal.invariant-of-self
-invariant-of-self c =
+pub invariant_of-self : goal.invariant_of-self
+invariant_of-self c =
     let r = c.args.self.now in
     let n = r.records in
     let held = roll_text n r.buffer.now in
@@ -24,8 +24,8 @@ invariant-of-self c =
     )
 
 -- then the byte
-pub invariant-of-self-2 : goal.invariant-of-self-2
-invariant-of-self-2 c =
+pub invariant_of-self-2 : goal.invariant_of-self-2
+invariant_of-self-2 c =
     let r = c.args.self.now in
     let n = r.records in
     let held = roll_text n r.buffer.now in
