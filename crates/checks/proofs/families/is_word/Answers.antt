@@ -5,4 +5,4 @@ use Rattle.checks.proofs.Words.{word_is}
 use Rattle.checks.proofs.families.is_word.Goals as goal
 
 pub returns : goal.returns
-returns c = word_is (map to_ascii_lowercase c.args.text.now) c.args.bytes.now c.eq-ignore-ascii-case.result (cases_from_iff c.eq-ignore-ascii-case.ensures.test)
+returns c = word_is (map to_ascii_lowercase c.args.text.now) c.args.bytes.now c.eq_ignore_ascii_case.result (cases_from_iff c.eq_ignore_ascii_case.ensures.test)

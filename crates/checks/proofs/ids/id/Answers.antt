@@ -6,9 +6,9 @@ pub returns-then-bytes-gt-LONGEST : goal.returns-then-bytes-gt-LONGEST
 unfolding id_verdict
 returns-then-bytes-gt-LONGEST c = search rules
 
-pub returns-then-not-has-id-bytes : goal.returns-then-not-has-id-bytes
+pub returns-then-not-has_id_bytes : goal.returns-then-not-has_id_bytes
 unfolding id_verdict
-returns-then-not-has-id-bytes c = search rules
+returns-then-not-has_id_bytes c = search rules
 
 pub returns : goal.returns
 unfolding id_verdict

@@ -10,9 +10,9 @@ pub returns-then-node-to : goal.returns-then-node-to
 unfolding held_at
 returns-then-node-to c = search rules
 
-pub returns-then-not-is-row : goal.returns-then-not-is-row
+pub returns-then-not-is_row : goal.returns-then-not-is_row
 unfolding held_at
-returns-then-not-is-row c = search rules
+returns-then-not-is_row c = search rules
 
 pub returns-then-depth-eq0 : goal.returns-then-depth-eq0
 unfolding held_at
@@ -38,9 +38,9 @@ pub returns-else-node-index-3 : goal.returns-else-node-index-3
 unfolding held_at
 returns-else-node-index-3 c = search rules
 
-pub returns-then-is-lone-group : goal.returns-then-is-lone-group
+pub returns-then-is_lone_group : goal.returns-then-is_lone_group
 unfolding held_at
-returns-then-is-lone-group c = search rules
+returns-then-is_lone_group c = search rules
 
 pub returns-else-index-node : goal.returns-else-index-node
 unfolding held_at

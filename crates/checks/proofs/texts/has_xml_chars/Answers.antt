@@ -16,8 +16,8 @@ loop-character-preserved c =
     let e = every_past xml_char bs rest c.in-Some.character c.loop-character.invariant.2.0 c.in-Some.ensures.steps.0 in
     search rules
 
-pub returns-then-not-is-xml-char : goal.returns-then-not-is-xml-char
-returns-then-not-is-xml-char c =
+pub returns-then-not-is_xml_char : goal.returns-then-not-is_xml_char
+returns-then-not-is_xml_char c =
     let bs = chars_rest c.loop-character.character-iterator in
     let rest = chars_rest c.next.new.self in
     let e = every_past xml_char bs rest c.in-Some.character c.loop-character.invariant.2.0 c.in-Some.ensures.steps.0 in

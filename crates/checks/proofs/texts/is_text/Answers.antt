@@ -6,7 +6,7 @@ use Rattle.checks.proofs.texts.is_text.Goals as goal
 pub returns-in-Ok : goal.returns-in-Ok
 returns-in-Ok c =
     let e = stands_of_utf8 c.args.bytes.now c.in-Ok.ensures.cases.1 in
-    let v : c.has-xml-chars.result ≡ text_stands c.args.bytes.now = search rules in
+    let v : c.has_xml_chars.result ≡ text_stands c.args.bytes.now = search rules in
     record { value = v; means = decides_text _ _ v }
 
 pub returns-in-Err : goal.returns-in-Err

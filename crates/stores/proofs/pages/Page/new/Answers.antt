@@ -13,4 +13,8 @@ invariant_of-result c =
     let same : length c.clear.new.buffer ≡ length old = ap length e ∙ clear_length old size within in
     let beyond : drop size c.clear.new.buffer ≡ drop size old = ap (drop size) e ∙ clear_beyond old size in
     let whole : size ≡ size - 0 = omega arith in
-    (c.reach_of-size.ensures ∙ ap (λ n. min n 1048576) (sym same), (omega arith, (e ∙ ap (λ xs. zeros size ++ xs) (sym beyond) ∙ ap (λ n. zeros n ++ drop size c.clear.new.buffer) whole, tt)))
+    record {
+      sized = c.reach_of-size.ensures ∙ ap (λ n. min n 1048576) (sym same);
+      fits = omega arith;
+      blank = e ∙ ap (λ xs. zeros size ++ xs) (sym beyond) ∙ ap (λ n. zeros n ++ drop size c.clear.new.buffer) whole;
+    }

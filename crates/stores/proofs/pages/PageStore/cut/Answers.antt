@@ -13,10 +13,12 @@ invariant_of-self c =
     let e : p.len ≡ k + 1 = omega arith in
     let blank : drop (k + 1) p.buffer.now ≡ zeros (p.size - (k + 1)) ++ drop p.size p.buffer.now =
     subst (λ n. drop n p.buffer.now ≡ zeros (p.size - n) ++ drop p.size p.buffer.now) e p.blank
-    in (
-      s ∙ ap (λ n. min n 1048576) (sym (length-set p.buffer.now k 0)),
-      (omega arith, (blank_cut p.buffer.now p.size k (omega arith) (omega arith) blank, tt)),
-    )
+    in
+    record {
+      sized = s ∙ ap (λ n. min n 1048576) (sym (length-set p.buffer.now k 0));
+      fits = omega arith;
+      blank = blank_cut p.buffer.now p.size k (omega arith) (omega arith) blank;
+    }
 
 pub loop-self-preserved : goal.loop-self-preserved
 loop-self-preserved c = search (rules, places, take-set-le, drop-set-lt)

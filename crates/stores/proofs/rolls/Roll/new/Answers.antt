@@ -15,7 +15,11 @@ invariant_of-result c =
     let within = (in_reach n old s).0 in
     let same : length c.clear.new.buffer ≡ length old = ap length e ∙ clear_length old (64 * n) within in
     let laid = subst (λ xs. Laid n xs []) (sym e) (new_laid n (drop (64 * n) old)) in
-    (s ∙ ap (λ k. min k 1048576 / 64) (sym same), (laid.laid, (sym (ap length laid.reads), tt)))
+    record {
+      sized = s ∙ ap (λ k. min k 1048576 / 64) (sym same);
+      laid = laid.laid;
+      counted = sym (ap length laid.reads);
+    }
 
 pub returns : goal.returns
 returns c =

@@ -39,10 +39,12 @@ invariant_of-self c =
     let s = turn c.loop-self.self c.args.count c.loop-self-test.true in
     let last = r.len - 1 in
     let t = c.loop-self-test.true in
-    let e : r.len ≡ last + 1 = omega arith in (
-      r.sized ∙ ap (λ k. min k 1048576 / 64) (sym (length-set r.buffer.now (64 * (last / 63) + (last % 63 + 1)) 0)),
-      (s.cleared.laid, (e ∙ ap (λ k. k + 1) (sym s.count) ∙ sym (ap length s.cleared.reads ∙ length_push (take last (roll_text r.records r.buffer.now)) 0), tt)),
-    )
+    let e : r.len ≡ last + 1 = omega arith in
+    record {
+      sized = r.sized ∙ ap (λ k. min k 1048576 / 64) (sym (length-set r.buffer.now (64 * (last / 63) + (last % 63 + 1)) 0));
+      laid = s.cleared.laid;
+      counted = e ∙ ap (λ k. k + 1) (sym s.count) ∙ sym (ap length s.cleared.reads ∙ length_push (take last (roll_text r.records r.buffer.now)) 0);
+    }
 
 pub bounds-self-record-in-loop-self : goal.bounds-self-record-in-loop-self
 bounds-self-record-in-loop-self c =
@@ -56,10 +58,12 @@ invariant_of-self-in-loop-self c =
     let r = c.loop-self.self in
     let s = turn c.loop-self.self c.args.count c.loop-self-test.true in
     let last = r.len - 1 in
-    let first = set r.buffer.now (64 * (last / 63) + (last % 63 + 1)) 0 in (
-      r.sized ∙ ap (λ k. min k 1048576 / 64) (sym (length-set first (64 * (last / 63)) (last % 63) ∙ length-set r.buffer.now (64 * (last / 63) + (last % 63 + 1)) 0)),
-      (s.dropped.laid, (sym s.count ∙ sym (ap length s.dropped.reads), tt)),
-    )
+    let first = set r.buffer.now (64 * (last / 63) + (last % 63 + 1)) 0 in
+    record {
+      sized = r.sized ∙ ap (λ k. min k 1048576 / 64) (sym (length-set first (64 * (last / 63)) (last % 63) ∙ length-set r.buffer.now (64 * (last / 63) + (last % 63 + 1)) 0));
+      laid = s.dropped.laid;
+      counted = sym s.count ∙ sym (ap length s.dropped.reads);
+    }
 
 pub loop-self-preserved : goal.loop-self-preserved
 loop-self-preserved c =

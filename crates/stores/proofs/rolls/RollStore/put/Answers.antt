@@ -18,10 +18,12 @@ invariant_of-self c =
     let r = c.args.self.now in
     let n = r.records in
     let held = roll_text n r.buffer.now in
-    let up = count_up n r.len r.buffer.now held (as_laid n r.buffer.now r.laid) r.counted c.if-self.false in (
-      r.sized ∙ ap (λ k. min k 1048576 / 64) (sym (length-set r.buffer.now (64 * (r.len / 63)) (r.len % 63 + 1))),
-      (up.laid, (ap (λ k. k + 1) r.counted ∙ sym (ap length up.reads ∙ length_push held 0), tt)),
-    )
+    let up = count_up n r.len r.buffer.now held (as_laid n r.buffer.now r.laid) r.counted c.if-self.false in
+    record {
+      sized = r.sized ∙ ap (λ k. min k 1048576 / 64) (sym (length-set r.buffer.now (64 * (r.len / 63)) (r.len % 63 + 1)));
+      laid = up.laid;
+      counted = ap (λ k. k + 1) r.counted ∙ sym (ap length up.reads ∙ length_push held 0);
+    }
 
 -- then the byte
 pub invariant_of-self-2 : goal.invariant_of-self-2
@@ -31,10 +33,12 @@ invariant_of-self-2 c =
     let held = roll_text n r.buffer.now in
     let first = set r.buffer.now (64 * (r.len / 63)) (r.len % 63 + 1) in
     let up = count_up n r.len r.buffer.now held (as_laid n r.buffer.now r.laid) r.counted c.if-self.false in
-    let put = last_byte n r.len first held 0 c.args.byte up r.counted c.if-self.false in (
-      r.sized ∙ ap (λ k. min k 1048576 / 64) (sym (length-set first (64 * (r.len / 63) + (r.len % 63 + 1)) c.args.byte ∙ length-set r.buffer.now (64 * (r.len / 63)) (r.len % 63 + 1))),
-      (put.laid, (ap (λ k. k + 1) r.counted ∙ sym (ap length put.reads ∙ length_push held c.args.byte), tt)),
-    )
+    let put = last_byte n r.len first held 0 c.args.byte up r.counted c.if-self.false in
+    record {
+      sized = r.sized ∙ ap (λ k. min k 1048576 / 64) (sym (length-set first (64 * (r.len / 63) + (r.len % 63 + 1)) c.args.byte ∙ length-set r.buffer.now (64 * (r.len / 63)) (r.len % 63 + 1)));
+      laid = put.laid;
+      counted = ap (λ k. k + 1) r.counted ∙ sym (ap length put.reads ∙ length_push held c.args.byte);
+    }
 
 pub returns : goal.returns
 returns c =
