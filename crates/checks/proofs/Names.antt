@@ -2,7 +2,7 @@
 use Rattle.std.proofs.Common.{◌≡◌, ℕ, Bool, true, false, cond, not, ◌&&◌, ◌||◌, eqb, ◌⊎◌, List, [], ◌∷◌, ◌++◌, map, codes, Decides, fold, sym, refl, ap, ◌∙◌, subst, inl, inr, append_assoc, arith}
 use Rattle.std.specs.Char.{to_ascii_lowercase}
 use Rattle.std.specs.List.{AllByRecursion as All}
-use Rattle.std.proofs.lemmas.List.{append_nil}
+use Rattle.std.proofs.lemmas.List.{append-nil}
 use Rattle.std.proofs.lemmas.Bool.{false≢true, eqb-true}
 use Rattle.checks.specs.declared.families.Spot.{Spot}
 use Rattle.checks.specs.declared.families.Spot.TheVariants.{Start, Hyphen, Inside, Wrong}
@@ -112,7 +112,7 @@ identifier_run one bytes i = elim i.spelled [
 ]
 
 all_spaced : (first : List ℕ) (others : List (List ℕ)) → Identifier first → All Identifier others → from Start (spaced first others) ≡ true
-all_spaced first [] i k = ap (from Start) (sym (append_nil first)) ∙ identifier_run first [] i
+all_spaced first [] i k = ap (from Start) (sym (append-nil first)) ∙ identifier_run first [] i
 all_spaced first (next ∷ others) i k = identifier_run first (32 ∷ spaced next others) i ∙ all_spaced next others k.0 k.1
 
 decides_identifiers : (bytes : List ℕ) → Decides (is_inside (spot_after bytes)) (Identifiers bytes)

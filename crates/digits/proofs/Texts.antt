@@ -102,13 +102,13 @@ skips_digits : (ds es : List ℕ) → all_ascii_digits ds ≡ true → behind_po
 skips_digits [] es h = refl
 skips_digits (c ∷ cs) es h = ap (λ (b : Bool). cond b (length (cs ++ es)) (behind_point (cs ++ es))) (no_point c (digit c cs h)) ∙ skips_digits cs es (digits c cs h)
 
-append_nil : (ds : List ℕ) → ds ++ [] ≡ ds
-append_nil [] = refl
-append_nil (c ∷ cs) = ap (λ (z : List ℕ). c ∷ z) (append_nil cs)
+append-nil : (ds : List ℕ) → ds ++ [] ≡ ds
+append-nil [] = refl
+append-nil (c ∷ cs) = ap (λ (z : List ℕ). c ∷ z) (append-nil cs)
 
 fraction_kept : (fs : List ℕ) → all_ascii_digits fs ≡ true → without_point (after_point fs) ≡ fs
 fraction_kept [] h = refl
-fraction_kept (c ∷ cs) h = ap without_point (sym (append_nil (c ∷ cs))) ∙ keeps_digits (c ∷ cs) [] h ∙ append_nil (c ∷ cs)
+fraction_kept (c ∷ cs) h = ap without_point (sym (append-nil (c ∷ cs))) ∙ keeps_digits (c ∷ cs) [] h ∙ append-nil (c ∷ cs)
 
 fraction_length : (fs : List ℕ) → behind_point (after_point fs) ≡ length fs
 fraction_length [] = refl
@@ -283,7 +283,7 @@ digits_bytes (c ∷ cs) es h a = (inr (inr (digit c cs h)), digits_bytes cs es (
 
 point_bytes : (fs : List ℕ) → all_ascii_digits fs ≡ true → All NumberByte (after_point fs)
 point_bytes [] h = tt
-point_bytes (c ∷ cs) h = (inr (inl refl), subst (All NumberByte) (append_nil (c ∷ cs)) (digits_bytes (c ∷ cs) [] h tt))
+point_bytes (c ∷ cs) h = (inr (inl refl), subst (All NumberByte) (append-nil (c ∷ cs)) (digits_bytes (c ∷ cs) [] h tt))
 
 sign_bytes : (s : Bool) (bs : List ℕ) → All NumberByte bs → All NumberByte (sign_text s ++ bs)
 sign_bytes true bs a = (inl refl, a)

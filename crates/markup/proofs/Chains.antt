@@ -1,7 +1,7 @@
 -- Laws of a pen: writing part by part is writing the whole, and a settled call wrote all of its bytes or none.
 use Rattle.std.proofs.Common.{◌≡◌, ℕ, suc, ◌+◌, ◌-◌, ◌<◌, ◌≤◌, Bool, true, false, cond, ltb, leb, List, [], ◌∷◌, ◌++◌, length, take, sym, refl, ap, ◌∙◌, subst, ⊎_elim, arith, length-append, le-ltb, lt-ltb, le-leb}
 use borrow.Author.Tests.{lt-leb, clash}
-use Rattle.std.proofs.lemmas.List.{append_nil, append_assoc, take-append-le, take_all, take_at, length_push}
+use Rattle.std.proofs.lemmas.List.{append-nil, append_assoc, take-append-le, take_all, take_at, length_push}
 use Rattle.std.proofs.lemmas.Bool.{cases_lt}
 use Rattle.markup.specs.Pens.{PenState, pen, step, after, afters, joined, fits, settled}
 
@@ -26,7 +26,7 @@ step_full s b p = rw (le-ltb (length s.held) s.capacity p)
 
 -- where it fits, x is appended
 pub after_fits : (s : PenState) (x : List ℕ) → length s.held + length x ≤ s.capacity → after s x ≡ record { held = s.held ++ x; capacity = s.capacity; lost = s.lost }
-after_fits s [] h = rw append_nil
+after_fits s [] h = rw append-nil
 after_fits s (b ∷ x) h =
     let e = step_fits s b (omega arith) in
     let t : PenState = record { held = s.held ++ b ∷ []; capacity = s.capacity; lost = s.lost } in
@@ -46,10 +46,10 @@ after_capacity s (b ∷ x) = after_capacity (step s b) x ∙ step_capacity s b
 
 pub step_held : (s : PenState) (b : ℕ) → (y : List ℕ) × ((step s b).held ≡ s.held ++ y)
 step_held s b =
-    ⊎_elim (λ h. (b ∷ [], ap (λ (z : PenState). z.held) (step_fits s b h))) (λ h. ([], ap (λ (z : PenState). z.held) (step_full s b h) ∙ sym (append_nil s.held))) (cases_lt (length s.held) s.capacity)
+    ⊎_elim (λ h. (b ∷ [], ap (λ (z : PenState). z.held) (step_fits s b h))) (λ h. ([], ap (λ (z : PenState). z.held) (step_full s b h) ∙ sym (append-nil s.held))) (cases_lt (length s.held) s.capacity)
 
 pub after_held : (s : PenState) (x : List ℕ) → (y : List ℕ) × ((after s x).held ≡ s.held ++ y)
-after_held s [] = ([], sym (append_nil s.held))
+after_held s [] = ([], sym (append-nil s.held))
 after_held s (b ∷ x) =
     let p = step_held s b in
     let q = after_held (step s b) x in

@@ -4,7 +4,7 @@ use Rattle.std.proofs.Common.{◌≡◌, ℕ, ◌+◌, ◌/◌, ◌<◌, ◌≤�
 use lib.Utf8.{encode, encodes, next}
 use Rattle.std.proofs.lemmas.Str.{encodes-append, encode_ascii, encodes-IsAscii, encodes-chars}
 use Rattle.std.specs.Str.{chars}
-use Rattle.std.proofs.lemmas.List.{append_nil}
+use Rattle.std.proofs.lemmas.List.{append-nil}
 use Rattle.std.proofs.lemmas.Bool.Decides.{nat_tests}
 use Rattle.markup.specs.declared.quotes.Quote.{Quote}
 use Rattle.markup.specs.declared.quotes.Quote.TheVariants.{Double, Single}
@@ -108,7 +108,7 @@ module _ (escape : ℕ → List ℕ) (highly : (b : ℕ) → T (high b) → esca
       go false e =
           let h : T (high c) = le→leb 128 c (ltb-false c 128 e) in
           all_high (encode c) rest (encode_high c e)
-          ∙ ap (λ z. z ++ rest) (sym (append_nil (encode c)) ∙ ap encodes (sym (highly c h)))
+          ∙ ap (λ z. z ++ rest) (sym (append-nil (encode c)) ∙ ap encodes (sym (highly c h)))
 
   pub all_encoded : (cs rest : List ℕ) → all_then (encodes cs) (encodes rest) ≡ encodes (all_then cs rest)
   all_encoded [] rest = refl
@@ -184,7 +184,7 @@ render_encoded empty rest = refl
 render_encoded (character c m) rest =
     characters_render (encode c) (encoded m) (encodes rest)
     ∙ ap (text_then (encode c)) (render_encoded m rest)
-    ∙ ap (λ z. text_then z (encodes (render m rest))) (sym (append_nil (encode c)))
+    ∙ ap (λ z. text_then z (encodes (render m rest))) (sym (append-nil (encode c)))
     ∙ text_encoded (c ∷ []) (render m rest)
 render_encoded (element n ps k m) rest =
     let e = encodes n in

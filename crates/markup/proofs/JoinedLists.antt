@@ -1,6 +1,6 @@
 -- One more value at the end of a joined list.
 use Rattle.std.proofs.Common.{◌≡◌, ℕ, ◌+◌, ◌<◌, ◌≤◌, List, [], ◌∷◌, ◌++◌, length, get_or, take, sym, refl, ap, ◌∙◌, arith, length-take}
-use Rattle.std.proofs.lemmas.List.{append_assoc, append_nil, take_more}
+use Rattle.std.proofs.lemmas.List.{append_assoc, append-nil, take_more}
 use Rattle.markup.specs.declared.quotes.Quote.{Quote}
 use Rattle.markup.specs.Pens.{PenState, after}
 use Rattle.markup.specs.Escapes.{value_then}
@@ -10,14 +10,14 @@ use Rattle.markup.proofs.Written.{value_join}
 
 further_push : {X : Type 0} (separator : List ℕ) (shown : X → List ℕ) (xs : List X) (x : X) →
     further separator shown (xs ++ x ∷ []) ≡ further separator shown xs ++ (separator ++ shown x)
-further_push separator shown [] x = ap (λ ys. separator ++ ys) (append_nil (shown x))
+further_push separator shown [] x = ap (λ ys. separator ++ ys) (append-nil (shown x))
 further_push separator shown (y ∷ xs) x =
     ap (λ ys. separator ++ (shown y ++ ys)) (further_push separator shown xs x)
     ∙ ap (λ ys. separator ++ ys) (sym (append_assoc (shown y) (further separator shown xs) (separator ++ shown x)))
     ∙ sym (append_assoc separator (shown y ++ further separator shown xs) (separator ++ shown x))
 
 pub joined_first : {X : Type 0} (separator : List ℕ) (shown : X → List ℕ) (x : X) → joined_by separator shown (x ∷ []) ≡ shown x
-joined_first separator shown x = append_nil (shown x)
+joined_first separator shown x = append-nil (shown x)
 
 pub joined_push : {X : Type 0} (separator : List ℕ) (shown : X → List ℕ) (xs : List X) (x : X) → 0 < length xs →
     joined_by separator shown (xs ++ x ∷ []) ≡ joined_by separator shown xs ++ (separator ++ shown x)

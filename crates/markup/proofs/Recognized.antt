@@ -3,7 +3,7 @@ use Rattle.std.proofs.Common.{◌≡◌, ℕ, true, false, not, T, List, [], ◌
 use mathlib.Core.Bool.{false≢true}
 use lib.Utf8.{encodes, scalars}
 use Rattle.std.specs.Str.{bytes_eq, chars}
-use Rattle.std.proofs.lemmas.List.{append_nil, append_assoc}
+use Rattle.std.proofs.lemmas.List.{append-nil, append_assoc}
 use Rattle.std.proofs.lemmas.Str.{chars-encodes}
 use Rattle.markup.specs.declared.quotes.Quote.{Quote}
 use Rattle.markup.specs.declared.quotes.Quote.TheVariants.{Double, Single}
@@ -70,7 +70,7 @@ quote_enters ns n given Double rest = refl
 quote_enters ns n given Single rest = refl
 
 specifications_run : (ns : Names) (n : List ℕ) (given : Names) (ss : List Specification) (rest : List ℕ) → SpecificationsStand ss → run ns (after_value n given) (specifications_then ss rest) ≡ run ns (after_value n (given ++ specified_names ss)) rest
-specifications_run ns n given [] rest h = ap (λ z. run ns (after_value n z) rest) (sym (append_nil given))
+specifications_run ns n given [] rest h = ap (λ z. run ns (after_value n z) rest) (sym (append-nil given))
 specifications_run ns n given (s ∷ more) rest h =
     let a = s.name in
     let now_given = given ++ a ∷ [] in

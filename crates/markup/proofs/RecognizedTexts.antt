@@ -1,7 +1,7 @@
 -- The machine lives through character data, references, sections, comments and processing instructions.
 use Rattle.std.proofs.Common.{◌≡◌, ℕ, ◌+◌, ◌*◌, Bool, true, false, cond, not, T, eqb, List, [], ◌∷◌, ◌++◌, map, codes, sym, refl, ap, ◌∙◌}
 use Rattle.std.specs.Str.{bytes_eq}
-use Rattle.std.proofs.lemmas.List.{append_nil, append_assoc}
+use Rattle.std.proofs.lemmas.List.{append-nil, append_assoc}
 use Rattle.markup.specs.Characters.{is_char, is_space, is_name_char, is_digit, is_hex_digit, is_data, ZeroOrMore, Without}
 use Rattle.markup.specs.CharacterReferences.{amp, lt, gt, quot, apos, Reference, entity_ref, decimal_ref, hexadecimal_ref, reference_then, ReferenceStands, digit_value, number_from}
 use Rattle.markup.specs.Content.{CharData, PI, small_letter, PITarget, PIText}
@@ -37,7 +37,7 @@ stays class ns m f [] rest h = refl
 stays class ns m f (x ∷ xs) rest h = moves ns m x (xs ++ rest) (f x h.0) ∙ stays class ns m f xs rest h.1
 
 pub gathers : (ns : Names) (m : List ℕ → Mode) → ((name : List ℕ) (c : ℕ) → T (is_name_char c) → step ns (m name) c ≡ (ns, m (name ++ c ∷ []))) → (name xs rest : List ℕ) → ZeroOrMore is_name_char xs → run ns (m name) (xs ++ rest) ≡ run ns (m (name ++ xs)) rest
-gathers ns m f name [] rest h = ap (λ z. run ns (m z) rest) (sym (append_nil name))
+gathers ns m f name [] rest h = ap (λ z. run ns (m z) rest) (sym (append-nil name))
 gathers ns m f name (x ∷ xs) rest h =
     moves ns (m name) x (xs ++ rest) (f name x h.0)
     ∙ gathers ns m f (name ++ x ∷ []) xs rest h.1

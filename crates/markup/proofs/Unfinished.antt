@@ -1,7 +1,7 @@
 -- The bytes of an unfinished forest grow by what each step writes, and its closing marks end it.
 use Rattle.std.proofs.Common.{◌≡◌, ℕ, Bool, true, false, cond, List, [], ◌∷◌, ◌++◌, sym, refl, ap, ◌∙◌}
 use mathlib.Core.Bool.{false≢true}
-use Rattle.std.proofs.lemmas.List.{append_nil, append_assoc}
+use Rattle.std.proofs.lemmas.List.{append-nil, append_assoc}
 use Rattle.markup.specs.Attributes.{Attribute, attributes_then}
 use Rattle.markup.specs.Trees.{empty, element, Written, is_empty, followed_by}
 use Rattle.markup.specs.Renderings.{tag_end, render}
@@ -22,11 +22,11 @@ tag_ended (e ∷ around) = go (is_empty e.children) refl
     go true h =
         ap (λ b. (outer around ++ (start ++ cond b [] (62 ∷ render e.children []))) ++ before_content b) h
         ∙ append_assoc (outer around) (start ++ []) (62 ∷ [])
-        ∙ ap (λ z. outer around ++ (z ++ 62 ∷ [])) (append_nil start)
+        ∙ ap (λ z. outer around ++ (z ++ 62 ∷ [])) (append-nil start)
         ∙ ap (λ z. outer around ++ (start ++ 62 ∷ render z [])) (sym (empty_is e.children h))
     go false h =
         ap (λ b. (outer around ++ (start ++ cond b [] (62 ∷ render e.children []))) ++ before_content b) h
-        ∙ append_nil (outer around ++ (start ++ 62 ∷ render e.children []))
+        ∙ append-nil (outer around ++ (start ++ 62 ∷ render e.children []))
 
 -- content x after what is so far
 after_tag : (outside : Written) (stack : List OpenElement) (x : List ℕ) → render outside [] ++ (outer stack ++ x) ≡ so_far (unfinished outside stack) ++ (before_content (in_start_tag stack) ++ x)
@@ -37,7 +37,7 @@ after_tag outside stack x =
 
 begun_grows : (name : List ℕ) (attributes : List Attribute) (u : Unfinished) → so_far (begin name attributes u) ≡ so_far u ++ (before_content (in_start_tag u.stack) ++ start_tag name attributes)
 begun_grows name attributes u =
-    ap (λ z. render u.outside [] ++ (outer u.stack ++ z)) (append_nil (start_tag name attributes))
+    ap (λ z. render u.outside [] ++ (outer u.stack ++ z)) (append-nil (start_tag name attributes))
     ∙ after_tag u.outside u.stack (start_tag name attributes)
 
 -- attributes
@@ -54,15 +54,15 @@ given_grows_at given outside (e ∷ around) h =
     ∙ ap (λ z. 60 ∷ z) (sym (append_assoc n (attributes_then e.attributes []) a))
     in
     ap (λ z. render outside [] ++ (outer around ++ (start_tag n (e.attributes ++ given) ++ z))) none
-    ∙ ap (λ z. render outside [] ++ (outer around ++ z)) (append_nil (start_tag n (e.attributes ++ given)) ∙ longer)
-    ∙ ap (λ z. render outside [] ++ (outer around ++ (z ++ a))) (sym (append_nil start) ∙ ap (λ z. start ++ z) (sym none))
+    ∙ ap (λ z. render outside [] ++ (outer around ++ z)) (append-nil (start_tag n (e.attributes ++ given)) ∙ longer)
+    ∙ ap (λ z. render outside [] ++ (outer around ++ (z ++ a))) (sym (append-nil start) ∙ ap (λ z. start ++ z) (sym none))
     ∙ ap (λ z. render outside [] ++ z) (sym (append_assoc (outer around) (start ++ content_so_far e.children) a))
     ∙ sym (append_assoc (render outside []) (outer around ++ (start ++ content_so_far e.children)) a)
 
 -- content
 
 added_outer : (content outside : Written) (stack : List OpenElement) → is_empty content ≡ false → so_far (add_at content outside stack) ≡ render outside [] ++ (outer stack ++ render content [])
-added_outer content outside [] h = append_nil _ ∙ render_both outside content
+added_outer content outside [] h = append-nil _ ∙ render_both outside content
 added_outer content outside (e ∷ around) h =
     let start = start_tag e.name e.attributes in
     ap (λ z. render outside [] ++ (outer around ++ z))
@@ -92,7 +92,7 @@ ended_whole e = go (is_empty e.children) refl
     go : (b : Bool) → is_empty e.children ≡ b → (start ++ content_so_far e.children) ++ end_mark (is_empty e.children) n ≡ render (ended e) []
     go true h =
         ap (λ b. (start ++ cond b [] (62 ∷ render e.children [])) ++ end_mark b n) h
-        ∙ ap (λ z. z ++ 47 ∷ 62 ∷ []) (append_nil start)
+        ∙ ap (λ z. z ++ 47 ∷ 62 ∷ []) (append-nil start)
         ∙ ap (λ z. 60 ∷ z) (append_assoc n (attributes_then e.attributes []) (47 ∷ 62 ∷ []))
         ∙ ap (λ z. 60 ∷ (n ++ z)) (sym (attributes_rest e.attributes (47 ∷ 62 ∷ [])))
         ∙ ap (λ b. 60 ∷ (n ++ attributes_then e.attributes (tag_end b [] (render e.children (60 ∷ 47 ∷ (n ++ 62 ∷ [])))))) (sym h)
@@ -170,7 +170,7 @@ ended_forest outside (e ∷ p ∷ around) =
 
 -- by ending one element after another
 whole : (depth : List OpenElement) (outside : Written) (stack : List OpenElement) → open_names depth ≡ open_names stack → so_far (unfinished outside stack) ++ owed (unfinished outside stack) ≡ render (finished (unfinished outside stack)) []
-whole depth outside [] h = append_nil (render outside [] ++ []) ∙ append_nil (render outside []) ∙ ap (λ z. render z []) (sym (followed_by_nothing outside))
+whole depth outside [] h = append-nil (render outside [] ++ []) ∙ append-nil (render outside []) ∙ ap (λ z. render z []) (sym (followed_by_nothing outside))
 whole [] outside (e ∷ around) h = absurd (no_names e.name (open_names around) h)
   where
     no_names : (n : List ℕ) (ns : List (List ℕ)) → [] ≡ n ∷ ns → ⊥

@@ -1,6 +1,6 @@
 -- Parts of what is written: one more byte of a value or of a text, and an attribute by its parts.
 use Rattle.std.proofs.Common.{◌≡◌, ℕ, ◌+◌, List, [], ◌∷◌, ◌++◌, codes, sym, refl, ap, ◌∙◌}
-use Rattle.std.proofs.lemmas.List.{append_assoc, append_nil}
+use Rattle.std.proofs.lemmas.List.{append_assoc, append-nil}
 use Rattle.markup.specs.declared.quotes.Quote.{Quote}
 use Rattle.markup.specs.Pens.{joined}
 use Rattle.markup.specs.Escapes.{quote_mark, escape_value, escape_text, value_then, text_then}
@@ -26,12 +26,12 @@ value_join q (c ∷ first) second =
 
 -- one byte more at the end
 pub value_push : (q : Quote) (cs : List ℕ) (c : ℕ) → value_then q (cs ++ c ∷ []) [] ≡ value_then q cs [] ++ escape_value q c
-value_push q [] c = append_nil (escape_value q c)
+value_push q [] c = append-nil (escape_value q c)
 value_push q (d ∷ cs) c =
     ap (λ xs. escape_value q d ++ xs) (value_push q cs c) ∙ sym (append_assoc (escape_value q d) (value_then q cs []) (escape_value q c))
 
 pub text_push : (cs : List ℕ) (c : ℕ) → text_then (cs ++ c ∷ []) [] ≡ text_then cs [] ++ escape_text c
-text_push [] c = append_nil (escape_text c)
+text_push [] c = append-nil (escape_text c)
 text_push (d ∷ cs) c =
     ap (λ xs. escape_text d ++ xs) (text_push cs c) ∙ sym (append_assoc (escape_text d) (text_then cs []) (escape_text c))
 

@@ -1,6 +1,6 @@
 -- Room for the closing marks is always kept, so close never lacks it.
 use Rattle.std.proofs.Common.{◌≡◌, ℕ, zero, suc, ◌+◌, ◌<◌, ◌≤◌, Bool, true, false, leb, List, [], ◌∷◌, ◌++◌, length, Ok, Err, sym, refl, ap, ◌∙◌, subst, arith, length-append, le-leb, leb-true}
-use Rattle.std.proofs.lemmas.List.{append_nil, append_assoc}
+use Rattle.std.proofs.lemmas.List.{append-nil, append_assoc}
 use Rattle.drawing.specs.declared.faults.Fault.{Fault}
 use Rattle.drawing.specs.declared.faults.Fault.TheVariants.{Full}
 use Rattle.checks.specs.Verdicts.{Verdict}
@@ -50,7 +50,7 @@ close_told h c name names stage f = ap (λ z. required z Full (Ok tt)) (le-leb _
 
 -- all of them, one after the other
 all_close : (names : List Element) (h : List ℕ) (c : ℕ) (stage : Stage) → Fits (plate h c names stage) → Closes (plate h c names stage)
-all_close [] h c stage f = record { each = λ k l. absurd (omega arith); last = refl; whole = sym (append_nil h) }
+all_close [] h c stage f = record { each = λ k l. absurd (omega arith); last = refl; whole = sym (append-nil h) }
 all_close (name ∷ names) h c stage f =
     let s = plate h c (name ∷ names) stage in
     let told = close_told h c name names stage f in

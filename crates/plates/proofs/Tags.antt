@@ -4,7 +4,7 @@ use Rattle.markup.specs.declared.quotes.Quote.{Quote}
 use Rattle.markup.specs.Pens.{joined}
 use Rattle.markup.specs.Attributes.{Attribute, attribute, attributes_then}
 use Rattle.markup.proofs.Written.{attributes_rest, attributes_join}
-use Rattle.std.proofs.lemmas.List.{append_assoc, append_nil}
+use Rattle.std.proofs.lemmas.List.{append_assoc, append-nil}
 use Rattle.drawing.specs.declared.options.WriteOptions.{WriteOptions}
 use Rattle.drawing.specs.Options.{prefix_of}
 use Rattle.plates.specs.declared.elements.Element.{Element}
@@ -32,6 +32,6 @@ start_parts o name id =
 pub start_whole : (o : WriteOptions) (name : Element) (id : List ℕ) → joined (start_parts o name id) ≡ start_tag o name id
 start_whole o name id =
     let rest = attributes_then (namespaces (quote_of o) name) [] in
-    ap (λ xs. codes "<" ++ (element_name name ++ (attributes_then (id_attributes o id) [] ++ xs))) (append_nil rest)
+    ap (λ xs. codes "<" ++ (element_name name ++ (attributes_then (id_attributes o id) [] ++ xs))) (append-nil rest)
     ∙ ap (λ xs. codes "<" ++ (element_name name ++ xs))
     (sym (attributes_rest (id_attributes o id) rest) ∙ sym (attributes_join (id_attributes o id) (namespaces (quote_of o) name) []))

@@ -21,7 +21,7 @@ loop-i-preserved g c =
       | then-i-gt0 w ↦
           wrote_two q start before (state g.S.Store c.if-i-gt0.pen) (state g.S.Store c.show.new.pen) text v.separator.now (g.V.Shown.shown x) _
           c.loop-i.invariant
-          (ap (state g.S.Store) w.pen-is ∙ w.write-value.ensures)
+          (ap (state g.S.Store) w.pen-is ∙ w.write_value.ensures)
           c.show.ensures
           (joined_later v.separator.now g.V.Shown.shown v.items.now i c.index-self-i.result c.loop-i-test.true w.if-i-gt0.true)
       | else-i-gt0 w ↦

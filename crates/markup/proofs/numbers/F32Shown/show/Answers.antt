@@ -11,7 +11,7 @@ unfolding shown_bare
 returns-in-Ok g c =
     let before = state g.S.Store c.args.pen.now in
     let e : text_of c.in-Ok.numeral ≡ shown_bare c.args.self.now = ap text_or_none c.in-Ok.ensures in
-    c.write-value.ensures ∙ ap (λ text. after before (value_then c.args.quote text [])) (c.text.ensures ∙ e)
+    c.write_value.ensures ∙ ap (λ text. after before (value_then c.args.quote text [])) (c.text.ensures ∙ e)
 
 pub returns-in-Err : goal.returns-in-Err
 unfolding shown_bare

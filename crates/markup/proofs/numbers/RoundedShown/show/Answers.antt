@@ -11,7 +11,7 @@ unfolding shown_rounded
 returns-in-Ok g c =
     let before = state g.S.Store c.args.pen.now in
     let e : text_of c.in-Ok.numeral ≡ shown_rounded c.args.self.now.precision c.args.self.now.value = ap text_or_none c.in-Ok.ensures in
-    c.write-value.ensures ∙ ap (λ text. after before (value_then c.args.quote text [])) (c.text.ensures ∙ e)
+    c.write_value.ensures ∙ ap (λ text. after before (value_then c.args.quote text [])) (c.text.ensures ∙ e)
 
 pub returns-in-Err : goal.returns-in-Err
 unfolding shown_rounded
