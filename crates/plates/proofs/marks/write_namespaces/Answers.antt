@@ -15,8 +15,8 @@ returns-in-Svg g c =
     let before = state g.S.Store c.args.pen.now in
     let first = attributes_then (svg ∷ []) [] in
     let second = attributes_then (xlink ∷ []) [] in
-    c.write-attribute-in-Svg.ensures
-    ∙ ap (λ z. after z second) c.write-attribute.ensures
+    c.write_attribute-in-Svg.ensures
+    ∙ ap (λ z. after z second) c.write_attribute.ensures
     ∙ after_after before first second
     ∙ ap (after before) (sym (two_attributes svg xlink))
     ∙ ap (λ name. after before (attributes_then (namespaces q name) [])) (sym c.in-Svg.is)

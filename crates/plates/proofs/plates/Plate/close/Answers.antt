@@ -9,18 +9,18 @@ use Rattle.plates.proofs.Closes.{close_outcome, close_names}
 use Rattle.plates.proofs.plates.Plate.close.Goals as goal
 
 -- not all fitted
-pub invariant-of-self : goal.invariant-of-self
-invariant-of-self g c =
+pub invariant_of-self : goal.invariant_of-self
+invariant_of-self g c =
     let p = c.args.self.now in
     let w = p.whole in
     let d = p.deep in
     let z = c.if-self-eq0.false in
     let r : CutBack (view g.S.Store p) closes (state g.S.Store c.settle.new.self) =
-    close_outcome false g.S.Store p _ c.mark-mark.result c.end-tags-size-owed.result c.write-end.new.pen c.settle.new.self
-    (innermost p.names p.depth _ (omega arith) (omega arith)) c.mark-mark.ensures c.write-end.ensures c.end-tags-size-owed.ensures.size
+    close_outcome false g.S.Store p _ c.mark-mark.result c.end_tags_size-owed.result c.write_end.new.pen c.settle.new.self
+    (innermost p.names p.depth _ (omega arith) (omega arith)) c.mark-mark.ensures c.write_end.ensures c.end_tags_size-owed.ensures.size
     c.if-not-settle.ensures.told c.if-not-settle.ensures.done
     in
-    (w, (d, (r.clean, tt)))
+    record { whole = w; deep = d; clean = r.clean }
 
 pub returns-then-not-settle : goal.returns-then-not-settle
 returns-then-not-settle g c =
@@ -29,8 +29,8 @@ returns-then-not-settle g c =
     let d = p.deep in
     let z = c.if-self-eq0.false in
     let r : CutBack (view g.S.Store p) closes (state g.S.Store c.settle.new.self) =
-    close_outcome false g.S.Store p _ c.mark-mark.result c.end-tags-size-owed.result c.write-end.new.pen c.settle.new.self
-    (innermost p.names p.depth _ (omega arith) (omega arith)) c.mark-mark.ensures c.write-end.ensures c.end-tags-size-owed.ensures.size
+    close_outcome false g.S.Store p _ c.mark-mark.result c.end_tags_size-owed.result c.write_end.new.pen c.settle.new.self
+    (innermost p.names p.depth _ (omega arith) (omega arith)) c.mark-mark.ensures c.write_end.ensures c.end_tags_size-owed.ensures.size
     c.if-not-settle.ensures.told c.if-not-settle.ensures.done
     in
     record {
@@ -40,18 +40,18 @@ returns-then-not-settle g c =
     }
 
 -- all fitted
-pub invariant-of-self-2 : goal.invariant-of-self-2
-invariant-of-self-2 g c =
+pub invariant_of-self-2 : goal.invariant_of-self-2
+invariant_of-self-2 g c =
     let p = c.args.self.now in
     let w = p.whole in
     let d = p.deep in
     let z = c.if-self-eq0.false in
     let r : Kept (view g.S.Store p) closes (state g.S.Store c.settle.new.self) =
-    close_outcome true g.S.Store p _ c.mark-mark.result c.end-tags-size-owed.result c.write-end.new.pen c.settle.new.self
-    (innermost p.names p.depth _ (omega arith) (omega arith)) c.mark-mark.ensures c.write-end.ensures c.end-tags-size-owed.ensures.size
+    close_outcome true g.S.Store p _ c.mark-mark.result c.end_tags_size-owed.result c.write_end.new.pen c.settle.new.self
+    (innermost p.names p.depth _ (omega arith) (omega arith)) c.mark-mark.ensures c.write_end.ensures c.end_tags_size-owed.ensures.size
     c.if-not-settle.ensures.told c.if-not-settle.ensures.done
     in
-    (w, (omega arith, (r.clean, tt)))
+    record { whole = w; deep = omega arith; clean = r.clean }
 
 pub returns : goal.returns
 returns g c =
@@ -60,8 +60,8 @@ returns g c =
     let d = p.deep in
     let z = c.if-self-eq0.false in
     let r : Kept (view g.S.Store p) closes (state g.S.Store c.settle.new.self) =
-    close_outcome true g.S.Store p _ c.mark-mark.result c.end-tags-size-owed.result c.write-end.new.pen c.settle.new.self
-    (innermost p.names p.depth _ (omega arith) (omega arith)) c.mark-mark.ensures c.write-end.ensures c.end-tags-size-owed.ensures.size
+    close_outcome true g.S.Store p _ c.mark-mark.result c.end_tags_size-owed.result c.write_end.new.pen c.settle.new.self
+    (innermost p.names p.depth _ (omega arith) (omega arith)) c.mark-mark.ensures c.write_end.ensures c.end_tags_size-owed.ensures.size
     c.if-not-settle.ensures.told c.if-not-settle.ensures.done
     in
     let n = close_names (reverse (take p.depth p.names)) (reverse (take (p.depth - 1) p.names)) _ (innermost p.names p.depth Svg (omega arith) (omega arith)) in

@@ -9,6 +9,6 @@ returns-in-Fresh g c =
     let w = p.whole in
     let d = p.deep in
     let z = c.if-self-eq0.false in
-    let s = c.end-tags-size.ensures.size in
+    let s = c.end_tags_size.ensures.size in
     let e = marks_tag p.stage (reverse (take p.depth p.names)) (reverse (take (p.depth - 1) p.names)) _ c.in-Fresh.is (innermost p.names p.depth Svg (omega arith) (omega arith)) in
     omega arith

@@ -12,21 +12,21 @@ use Rattle.plates.proofs.plates.Plate.open.Goals as goal
 cut_back : (g : _) (c : goal.Then-not-settle g) → CutBack (view g.S.Store c.args.self.now) (opens c.args.options.now c.args.element c.args.id.now) (state g.S.Store c.settle.new.self)
 cut_back g c =
     open_outcome false g.S.Store c.args.self.now c.args.options.now c.args.element c.args.id.now
-    c.mark-mark.result c.end-tags-size-owed.result c.write-finish.new.pen c.write-start.new.pen c.settle.new.self
-    (sym c.if-not-are-settings.ensures) (sym c.if-not-may-open.ensures) (sym c.in-ok-id-at.ensures)
-    c.mark-mark.ensures c.write-finish.ensures c.write-start.ensures c.end-tags-size-owed.ensures.size
+    c.mark-mark.result c.end_tags_size-owed.result c.write_finish.new.pen c.write_start.new.pen c.settle.new.self
+    (sym c.if-not-are_settings.ensures) (sym c.if-not-may_open.ensures) (sym c.in_ok-id_at.ensures)
+    c.mark-mark.ensures c.write_finish.ensures c.write_start.ensures c.end_tags_size-owed.ensures.size
     c.if-not-settle.ensures.told c.if-not-settle.ensures.done
 
-pub invariant-of-self : goal.invariant-of-self
-invariant-of-self g c = (c.args.self.now.whole, (c.args.self.now.deep, ((cut_back g c).clean, tt)))
+pub invariant_of-self : goal.invariant_of-self
+invariant_of-self g c = record { whole = c.args.self.now.whole; deep = c.args.self.now.deep; clean = (cut_back g c).clean }
 
 pub returns-then-not-settle : goal.returns-then-not-settle
 returns-then-not-settle g c =
     let r : CutBack (view g.S.Store c.args.self.now) (opens c.args.options.now c.args.element c.args.id.now) (state g.S.Store c.settle.new.self) =
     open_outcome false g.S.Store c.args.self.now c.args.options.now c.args.element c.args.id.now
-    c.mark-mark.result c.end-tags-size-owed.result c.write-finish.new.pen c.write-start.new.pen c.settle.new.self
-    (sym c.if-not-are-settings.ensures) (sym c.if-not-may-open.ensures) (sym c.in-ok-id-at.ensures)
-    c.mark-mark.ensures c.write-finish.ensures c.write-start.ensures c.end-tags-size-owed.ensures.size
+    c.mark-mark.result c.end_tags_size-owed.result c.write_finish.new.pen c.write_start.new.pen c.settle.new.self
+    (sym c.if-not-are_settings.ensures) (sym c.if-not-may_open.ensures) (sym c.in_ok-id_at.ensures)
+    c.mark-mark.ensures c.write_finish.ensures c.write_start.ensures c.end_tags_size-owed.ensures.size
     c.if-not-settle.ensures.told c.if-not-settle.ensures.done
     in
     record {
@@ -41,22 +41,22 @@ bounds-self-self g c =
     let p = c.args.self.now in
     let w = p.whole in
     let d = p.deep in
-    room_for_one p.names p.depth (omega arith) (sym c.if-not-may-open.ensures)
+    room_for_one p.names p.depth (omega arith) (sym c.if-not-may_open.ensures)
 
-pub invariant-of-self-2 : goal.invariant-of-self-2
-invariant-of-self-2 g c =
+pub invariant_of-self-2 : goal.invariant_of-self-2
+invariant_of-self-2 g c =
     let p = c.args.self.now in
     let w = p.whole in
     let d = p.deep in
     let r : Kept (view g.S.Store c.args.self.now) (opens c.args.options.now c.args.element c.args.id.now) (state g.S.Store c.settle.new.self) =
     open_outcome true g.S.Store c.args.self.now c.args.options.now c.args.element c.args.id.now
-    c.mark-mark.result c.end-tags-size-owed.result c.write-finish.new.pen c.write-start.new.pen c.settle.new.self
-    (sym c.if-not-are-settings.ensures) (sym c.if-not-may-open.ensures) (sym c.in-ok-id-at.ensures)
-    c.mark-mark.ensures c.write-finish.ensures c.write-start.ensures c.end-tags-size-owed.ensures.size
+    c.mark-mark.result c.end_tags_size-owed.result c.write_finish.new.pen c.write_start.new.pen c.settle.new.self
+    (sym c.if-not-are_settings.ensures) (sym c.if-not-may_open.ensures) (sym c.in_ok-id_at.ensures)
+    c.mark-mark.ensures c.write_finish.ensures c.write_start.ensures c.end_tags_size-owed.ensures.size
     c.if-not-settle.ensures.told c.if-not-settle.ensures.done
     in
-    let l = room_for_one p.names p.depth (omega arith) (sym c.if-not-may-open.ensures) in
-    (length-set p.names p.depth c.args.element ∙ w, (omega arith, (r.clean, tt)))
+    let l = room_for_one p.names p.depth (omega arith) (sym c.if-not-may_open.ensures) in
+    record { whole = length-set p.names p.depth c.args.element ∙ w; deep = omega arith; clean = r.clean }
 
 pub returns : goal.returns
 returns g c =
@@ -65,12 +65,12 @@ returns g c =
     let d = p.deep in
     let r : Kept (view g.S.Store c.args.self.now) (opens c.args.options.now c.args.element c.args.id.now) (state g.S.Store c.settle.new.self) =
     open_outcome true g.S.Store c.args.self.now c.args.options.now c.args.element c.args.id.now
-    c.mark-mark.result c.end-tags-size-owed.result c.write-finish.new.pen c.write-start.new.pen c.settle.new.self
-    (sym c.if-not-are-settings.ensures) (sym c.if-not-may-open.ensures) (sym c.in-ok-id-at.ensures)
-    c.mark-mark.ensures c.write-finish.ensures c.write-start.ensures c.end-tags-size-owed.ensures.size
+    c.mark-mark.result c.end_tags_size-owed.result c.write_finish.new.pen c.write_start.new.pen c.settle.new.self
+    (sym c.if-not-are_settings.ensures) (sym c.if-not-may_open.ensures) (sym c.in_ok-id_at.ensures)
+    c.mark-mark.ensures c.write_finish.ensures c.write_start.ensures c.end_tags_size-owed.ensures.size
     c.if-not-settle.ensures.told c.if-not-settle.ensures.done
     in
-    let l = room_for_one p.names p.depth (omega arith) (sym c.if-not-may-open.ensures) in
+    let l = room_for_one p.names p.depth (omega arith) (sym c.if-not-may_open.ensures) in
     record {
       told = sym r.told;
       done = same_plate r.held r.capacity (one_more p.names p.depth c.args.element (omega arith)) refl ∙ sym r.step;
