@@ -17,6 +17,7 @@ use crate::failures::Failure;
 use crate::runs::record_of;
 use crate::script::read_script;
 use std::io::{Read, Write};
+use std::process::ExitCode;
 
 /// The whole of standard input.
 fn input(rt: &HostRuntime) -> Result<Vec<u8>, Failure> {
@@ -34,10 +35,12 @@ fn work(rt: &HostRuntime) -> Result<(), Failure> {
     Ok(())
 }
 
-fn main(rt: HostRuntime) -> Result<(), Failure> {
-    let result = work(&rt);
-    if let Err(failure) = &result {
-        let _ = eprintln!(rt; "{failure}");
+fn main(rt: HostRuntime) -> ExitCode {
+    match work(&rt) {
+        Ok(()) => ExitCode::SUCCESS,
+        Err(failure) => {
+            let _ = eprintln!(rt; "{failure}");
+            ExitCode::FAILURE
+        }
     }
-    result
 }

@@ -5,7 +5,7 @@ use Rattle.mapplate.proofs.record.put_text.Goals as goal
 
 pub loop-place-preserved : goal.loop-place-preserved
 loop-place-preserved g c =
-    let pushed = chosen _ _ _ _ c.push.ensures.items (ap is_ok c.in-ok-push.was) in
+    let pushed = chosen _ _ _ _ c.push.ensures.items (ap is_ok c.in_ok-push.was) in
     let at = c.in-Some.ensures in
     text_more (vec_items c.args.out.now) (vec_items c.loop-place.out) _ (g.S.Store.held c.args.store.now) c.loop-place.place c.in-Some.byte c.loop-place.invariant pushed at.0 at.1
 
