@@ -1,14 +1,13 @@
 -- The recursive table rule holds exactly where some shape is laid out in the range.
-use Rattle.std.proofs.Common.{◌≡◌, ℕ, zero, suc, ◌+◌, ◌-◌, ◌<◌, ◌≤◌, Bool, true, false, cond, ◌&&◌, eqb, ltb, leb, ◌⊎◌, Decides, sym, refl, ap, ◌∙◌, subst, inl, inr, arith}
+use Rattle.std.proofs.Common.{◌≡◌, ℕ, zero, suc, ◌+◌, ◌-◌, ◌<◌, ◌≤◌, Bool, true, false, cond, ◌&&◌, eqb, ltb, leb, ◌⊎◌, sym, refl, ap, ◌∙◌, subst, inl, inr, arith}
 use Rattle.std.proofs.lemmas.Bool.{false≢true, ltb-true, leb-true, eqb-true, lt-ltb, le-leb, eq-eqb, and_parts, cases_lt}
 use Rattle.drawing.specs.declared.tables.Kind.{Kind}
 use Rattle.drawing.specs.declared.tables.Kind.TheVariants as kind
-use Rattle.drawing.specs.declared.tables.Node.{Node}
 use Rattle.drawing.specs.declared.tables.Drawing.{Drawing}
 use Rattle.drawing.specs.Tables.{node_at}
 use Rattle.checks.specs.declared.tables.Held.{Held}
 use Rattle.checks.specs.declared.tables.Held.TheVariants.{Broken, Nothing, Children}
-use Rattle.checks.specs.Tables.{row_stands, is_group, lone_group, deeper, held_by, sits, held_at, goes_on, range_stands}
+use Rattle.checks.specs.Tables.{row_stands, is_group, lone_group, held_by, sits, held_at, goes_on, range_stands}
 use Rattle.checks.specs.Sound.{Shape, nothing, leaf, group, text, Shallow, IsLeaf, Laid}
 use Rattle.checks.proofs.Ranges.{range_end, range_more}
 

@@ -1,7 +1,7 @@
 -- Each entry's verdict accepts exactly when the entry keeps its rule, and a fault has that rule's number.
 use Rattle.std.proofs.Common.{◌≡◌, ℕ, ◌+◌, ◌<◌, ◌≤◌, Bool, true, false, cond, not, ◌&&◌, eqb, ltb, leb, ◌⊎◌, List, [], ◌∷◌, length, get_or, Ok, Err, Decides, sym, refl, ap, ◌∙◌, inl, inr, arith}
 use Rattle.std.specs.List.{AllByRecursion as All}
-use Rattle.std.proofs.lemmas.Bool.{false≢true, ltb-true, ltb-false, leb-true, leb-false, eqb-true, eqb-false, lt-ltb, le-ltb, le-leb, lt-leb, eq-eqb, ne_eqb}
+use Rattle.std.proofs.lemmas.Bool.{false≢true, ltb-true, ltb-false, leb-true, leb-false, eqb-true, eqb-false, lt-ltb, le-leb, eq-eqb}
 use Rattle.drawing.specs.declared.faults.ValueFault.{ValueFault}
 use Rattle.drawing.specs.declared.faults.ValueFault.TheVariants as fault
 use Rattle.drawing.specs.declared.faults.IdFault.TheVariants.{Missing, TooLong, BadByte}
@@ -13,9 +13,8 @@ use Rattle.checks.specs.declared.numbers.Domain.{Domain}
 use Rattle.checks.specs.Verdicts.{Verdict, every, verdict_of, accepts}
 use Rattle.checks.specs.Ids.{id_byte, id_bytes, id_verdict, reference_verdict, between}
 use Rattle.checks.specs.Numbers.{shown_in, in_range, number_verdict}
-use Rattle.checks.specs.Texts.{text_stands, span_lies, character_bound}
-use Rattle.checks.specs.Families.{plain_bytes}
-use Rattle.checks.specs.Entries.{Entry, row_in, place_in, at_most, own_id, referenced_id, not_empty, begins_with_move, number_in, text_of, span_of, family_name, rule_of, rule_number, lies, moves_first, entry_verdict}
+use Rattle.checks.specs.Texts.{text_stands, character_bound}
+use Rattle.checks.specs.Entries.{Entry, row_in, place_in, at_most, own_id, referenced_id, not_empty, begins_with_move, number_in, text_of, span_of, family_name, rule_of, rule_number, moves_first, entry_verdict}
 use Rattle.checks.specs.Sound.{Id, CharacterBound, Keeps}
 use Rattle.checks.proofs.Scans.{decides_text}
 use lib.Ieee.{Float}

@@ -1,12 +1,12 @@
 -- The fold over a family's name finds exactly identifiers joined by single spaces.
-use Rattle.std.proofs.Common.{◌≡◌, ℕ, Bool, true, false, cond, not, ◌&&◌, ◌||◌, eqb, ◌⊎◌, List, [], ◌∷◌, ◌++◌, map, codes, Decides, fold, sym, refl, ap, ◌∙◌, subst, inl, inr, append_assoc, arith}
+use Rattle.std.proofs.Common.{◌≡◌, ℕ, Bool, true, false, cond, not, ◌||◌, eqb, ◌⊎◌, List, [], ◌∷◌, ◌++◌, map, codes, Decides, fold, sym, refl, ap, ◌∙◌, subst, inl, inr, append_assoc}
 use Rattle.std.specs.Char.{to_ascii_lowercase}
 use Rattle.std.specs.List.{AllByRecursion as All}
 use Rattle.std.proofs.lemmas.List.{append-nil}
 use Rattle.std.proofs.lemmas.Bool.{false≢true, eqb-true}
 use Rattle.checks.specs.declared.families.Spot.{Spot}
 use Rattle.checks.specs.declared.families.Spot.TheVariants.{Start, Hyphen, Inside, Wrong}
-use Rattle.checks.specs.Families.{starts_identifier, in_identifier, next_spot, spot_after, is_inside, word, generic_word, reserved_word, bare_name}
+use Rattle.checks.specs.Families.{starts_identifier, in_identifier, next_spot, spot_after, is_inside, word, generic_word, reserved_word}
 use Rattle.checks.specs.BareNames.{Identifier, spaced, Identifiers, reserved, BareNamesStand}
 use Rattle.checks.proofs.Keeping.{decides_and}
 use Rattle.checks.proofs.Words.{word_yes, word_no}

@@ -1,17 +1,16 @@
 -- The verdict on a row's entries is the first fault in the order of the tests.
-use Rattle.std.proofs.Common.{◌≡◌, ℕ, zero, suc, ◌+◌, ◌<◌, ◌≤◌, Bool, true, false, cond, eqb, List, [], ◌∷◌, ◌++◌, Ok, Err, Decides, filter, Option, sym, refl, ap, ◌∙◌, subst, arith}
+use Rattle.std.proofs.Common.{◌≡◌, Bool, true, false, cond, eqb, List, [], ◌∷◌, ◌++◌, Ok, Err, Decides, filter, sym, refl, ap, ◌∙◌, subst}
 use Rattle.std.specs.List.{AllByRecursion as All}
 use Rattle.std.proofs.lemmas.List.Elements.{filter-append}
 use Rattle.std.proofs.ByRecursion.{All-append, all_kept_by}
 use Rattle.std.proofs.lemmas.Bool.{false≢true, eq-eqb}
-use Rattle.drawing.specs.declared.names.AId.{AId}
 use Rattle.drawing.specs.declared.faults.ValueFault.{ValueFault}
 use Rattle.drawing.specs.declared.faults.AttributeFault.{AttributeFault}
 use Rattle.checks.specs.declared.entries.Rule.{Rule}
 use Rattle.checks.specs.declared.entries.Rule.TheVariants as rule
 use Rattle.checks.specs.Verdicts.{Verdict, before, recast, accepts}
 use Rattle.checks.specs.Entries.{Entry, entry_verdict, in_field, judged, rule_of, rule_number, Fields, none, field, ◌then◌, first_at, by_rules}
-use Rattle.checks.specs.Sound.{Field, Keeps, Kept, listed, has_rule, tested_by, ordered, FirstBroken}
+use Rattle.checks.specs.Sound.{Field, Kept, listed, has_rule, tested_by, ordered, FirstBroken}
 use Rattle.checks.proofs.Keeping.{decides_entry, entry_fault}
 
 -- ---- the first fault of a list of fields

@@ -5,7 +5,7 @@ use Rattle.drawing.specs.declared.tables.Node.{Node}
 use Rattle.drawing.specs.Tables.{node_at}
 use Rattle.checks.specs.declared.tables.Held.{Held}
 use Rattle.checks.specs.declared.tables.Held.TheVariants.{Broken, Nothing, Children}
-use Rattle.checks.specs.Tables.{row_stands, held_by, held_at, sits, goes_on, tiles, range_stands}
+use Rattle.checks.specs.Tables.{row_stands, held_at, goes_on, tiles, range_stands}
 
 -- a node that is not broken ends after itself and inside the range
 pub record Inside (i end to : ℕ) : Type 0 where

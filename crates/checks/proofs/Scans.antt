@@ -1,8 +1,8 @@
 -- Texts: the loop over characters, and that the test says what it should.
-use Rattle.std.proofs.Common.{◌≡◌, ℕ, zero, suc, ◌+◌, ◌<◌, ◌≤◌, Bool, true, false, cond, ◌&&◌, ◌||◌, eqb, List, [], ◌∷◌, ◌++◌, length, IsUtf8, Decides, sym, refl, ap, ◌∙◌, subst, arith, eqb-true}
+use Rattle.std.proofs.Common.{◌≡◌, ℕ, Bool, true, false, ◌&&◌, eqb, List, [], ◌∷◌, ◌++◌, length, IsUtf8, Decides, sym, refl, ap, ◌∙◌, arith, eqb-true}
 use lib.Utf8.{encode, encodes, scalar, scalars}
 use Rattle.std.specs.Str.{chars}
-use Rattle.std.proofs.lemmas.Str.{chars_past_char, IsUtf8-past_char, chars-nil, encodes-chars, chars-encodes}
+use Rattle.std.proofs.lemmas.Str.{chars_past_char, chars-nil, encodes-chars, chars-encodes}
 use Rattle.std.proofs.lemmas.Bool.Decides.{nat_tests}
 use Rattle.checks.specs.Verdicts.{every}
 use Rattle.checks.specs.Texts.{xml_char, same, text_stands, Text}

@@ -1,5 +1,5 @@
 -- A call's checks accept exactly the sound drawings, and a refusal names the first broken entry.
-use Rattle.std.proofs.Common.{◌≡◌, ℕ, zero, suc, ◌+◌, ◌-◌, ◌<◌, ◌≤◌, Bool, true, false, cond, ◌&&◌, eqb, ltb, leb, ◌⊎◌, List, [], ◌∷◌, ◌++◌, length, Some, None, Ok, Err, Decides, filter, sym, refl, ap, ◌∙◌, subst, inl, inr, arith}
+use Rattle.std.proofs.Common.{◌≡◌, ℕ, zero, suc, ◌+◌, ◌-◌, ◌<◌, ◌≤◌, Bool, true, false, cond, ◌&&◌, eqb, ltb, leb, List, [], ◌∷◌, length, Some, None, Ok, Err, Decides, filter, sym, refl, ◌∙◌, subst, inl, inr, arith}
 use Rattle.std.specs.List.{AllByRecursion as All}
 use Rattle.std.proofs.lemmas.Bool.{false≢true, ltb-true, leb-true, lt-ltb, le-leb, and_parts, cases_lt}
 use Rattle.drawing.specs.declared.faults.AttributeFault.{AttributeFault}
@@ -14,14 +14,14 @@ use Rattle.checks.specs.declared.entries.Rule.{Rule}
 use Rattle.checks.specs.declared.entries.Rule.TheVariants as rule
 use Rattle.checks.specs.Verdicts.{Verdict, before, recast, found_in, count_up, accepts}
 use Rattle.checks.specs.Entries.{Fields, rule_number, first_at, by_rules, each}
-use Rattle.checks.specs.Rows.{node_fields, gradient_fields, stop_fields, each_stop}
-use Rattle.checks.specs.Tables.{row_stands, range_stands, rows_fit, entries_fit, lists_fit, table_stands, gradient_stands}
-use Rattle.checks.specs.Calls.{node_verdict, nodes_verdict, draw_verdict, gradient_verdict}
+use Rattle.checks.specs.Rows.{node_fields, gradient_fields, each_stop}
+use Rattle.checks.specs.Tables.{rows_fit, entries_fit, lists_fit, table_stands, gradient_stands}
+use Rattle.checks.specs.Calls.{node_verdict, nodes_verdict}
 use Rattle.checks.specs.Sound.{Field, Kept, listed, has_rule, tested_by, ordered, Limited, EntriesAt, Tabled, Sound, GradientTabled, GradientSound, FirstBroken, FirstNode, Refused, GradientRefused, DrawStands, GradientStands}
 use Rattle.checks.proofs.Keeping.{decides_and, decides_le}
-use Rattle.checks.proofs.Orders.{first_broken, first_is, by_rules_is, Outcome, outcome, decides_rule, by_parts, all_right, all_listed, listed_places, listed_ordered}
+use Rattle.checks.proofs.Orders.{first_is, by_rules_is, Outcome, outcome, decides_rule, by_parts, all_right, all_listed, listed_places, listed_ordered}
 use Rattle.std.proofs.ByRecursion.{all_kept_by}
-use Rattle.checks.proofs.Forests.{Fits, fits, stands}
+use Rattle.checks.proofs.Forests.{fits, stands}
 
 -- ---- nodes in table order
 

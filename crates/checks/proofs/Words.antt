@@ -1,5 +1,5 @@
 -- Family names: the fold over their bytes, and words in any letter case.
-use Rattle.std.proofs.Common.{◌≡◌, ℕ, ◌+◌, ◌<◌, Bool, true, false, List, [], map, length, get_or, take, MatchBool, sym, refl, ap, ◌∙◌}
+use Rattle.std.proofs.Common.{◌≡◌, ℕ, ◌+◌, ◌<◌, Bool, true, false, List, [], map, length, get_or, take, MatchBool, sym, refl}
 use Rattle.std.specs.Char.{to_ascii_lowercase}
 use Rattle.std.proofs.lemmas.List.Sums.{fold_more}
 use Rattle.checks.specs.Texts.{same}

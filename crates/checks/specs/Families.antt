@@ -1,5 +1,5 @@
 -- The rule for a named family, and which names go without quotes.
-use Rattle.std.specs.Prelude.{ℕ, Bool, true, false, cond, not, ◌&&◌, ◌||◌, List, [], ◌∷◌, map, codes, fold, ◌==◌, nat_le}
+use Rattle.std.specs.Prelude.{ℕ, Bool, true, false, cond, not, ◌&&◌, ◌||◌, List, map, codes, fold, ◌==◌, nat_le}
 use Rattle.std.specs.Char.{to_ascii_lowercase}
 use Rattle.checks.specs.Verdicts.{every}
 use Rattle.checks.specs.Ids.{between}

@@ -1,5 +1,5 @@
 -- The rule for numbers.
-use Rattle.std.specs.Prelude.{Bool, true, false, cond, ◌&&◌, Ok, Err, Float}
+use Rattle.std.specs.Prelude.{Bool, true, cond, ◌&&◌, Ok, Err, Float}
 use Rattle.std.specs.Float.Ieee.{le, lt}
 use Rattle.digits.specs.Magnitudes.{bare_domain, rounded_domain}
 use Rattle.drawing.specs.Tables.{nought, one}

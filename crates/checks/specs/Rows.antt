@@ -1,5 +1,5 @@
 -- The entries of each kind of row, in the order in which they are tested.
-use Rattle.std.specs.Prelude.{ℕ, List, [], ◌∷◌, length, Some, None, Option, Float}
+use Rattle.std.specs.Prelude.{ℕ, List, length, Some, None, Option, Float}
 use Rattle.drawing.specs.declared.names.AId.{AId}
 use Rattle.drawing.specs.declared.names.AId.TheVariants as attribute
 use Rattle.drawing.specs.declared.rows.Place.{Place}

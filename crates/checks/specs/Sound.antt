@@ -1,5 +1,5 @@
 -- What the rules want, said of every entry of a drawing, and what a refusal then says.
-use Rattle.std.specs.Prelude.{◌≡◌, ℕ, suc, ◌+◌, ◌<◌, ◌≤◌, Bool, true, false, ◌⊎◌, List, [], ◌∷◌, ◌++◌, length, Some, None, Err, Decides, filter, Option, ◌==◌, slice_index}
+use Rattle.std.specs.Prelude.{◌≡◌, ℕ, suc, ◌+◌, ◌<◌, ◌≤◌, Bool, true, ◌⊎◌, List, [], ◌∷◌, ◌++◌, length, Some, None, Err, Decides, filter, Option, ◌==◌, slice_index}
 use Rattle.std.specs.List.{AllByRecursion as All}
 use Rattle.drawing.specs.declared.names.AId.{AId}
 use Rattle.drawing.specs.declared.faults.AttributeFault.{AttributeFault}
@@ -12,7 +12,6 @@ use Rattle.drawing.specs.declared.rows.PathSegment.{PathSegment}
 use Rattle.drawing.specs.declared.rows.PathSegment.TheVariants.{MoveTo}
 use Rattle.drawing.specs.declared.tables.Kind.{Kind}
 use Rattle.drawing.specs.declared.tables.Kind.TheVariants as kind
-use Rattle.drawing.specs.declared.tables.Node.{Node}
 use Rattle.drawing.specs.declared.tables.Drawing.{Drawing}
 use Rattle.drawing.specs.Tables.{node_at}
 use Rattle.checks.specs.declared.entries.Rule.{Rule}

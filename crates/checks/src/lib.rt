@@ -2,6 +2,7 @@
 //!
 //! A check writes nothing. Its answer equals a definition in `specs/` for all arguments, and `theorems` says what these
 //! definitions mean: a drawing is accepted exactly when every entry of it keeps its rule.
+#![tactic(auto)]
 
 pub mod calls;
 mod entries;

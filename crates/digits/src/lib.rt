@@ -3,6 +3,8 @@
 // Each call gives a numeral, a small fixed value that holds the text, or refuses. What the texts are,
 // how they read back as floats, and that no other text would do, is defined in specs/ and proved.
 // Nothing here allocates.
+#![tactic(auto)]
+
 pub mod exports;
 pub mod numerals;
 mod places;

@@ -1,8 +1,6 @@
 -- What each fault says: its number and word, and the attribute and node it was in, where there is one.
 use Rattle.std.specs.Prelude.{ℕ, List, Some, None, codes, Option}
 use Rattle.drawing.specs.declared.names.AId.{AId}
-use Rattle.drawing.specs.declared.faults.IdFault.{IdFault}
-use Rattle.drawing.specs.declared.faults.NumberFault.{NumberFault}
 use Rattle.drawing.specs.declared.faults.ValueFault.{ValueFault}
 use Rattle.drawing.specs.declared.faults.ValueFault.TheVariants.{Place, Id, Empty, Number, Text, Family}
 use Rattle.drawing.specs.declared.faults.Found.{Found}

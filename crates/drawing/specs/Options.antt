@@ -1,4 +1,4 @@
-use Rattle.std.specs.Prelude.{ℕ, Bool, true, false, List, [], Some, None, Option}
+use Rattle.std.specs.Prelude.{ℕ, false, List, [], Some, None, Option}
 use Rattle.std.specs.Borrow.{Bor}
 use Rattle.drawing.specs.declared.options.WriteOptions.{WriteOptions}
 

@@ -1,4 +1,5 @@
 //! What calls are made of: the tables of a drawing, the options of a call, and the faults with which one is refused.
+#![tactic(auto)]
 
 pub mod faults;
 pub mod keywords;

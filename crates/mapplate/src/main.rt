@@ -2,6 +2,7 @@
 //!
 //! The script comes from standard input. It is read whole and understood whole before the first call, so that a script
 //! with an error has its message on standard error, nothing on standard output, and the status 1.
+#![tactic(auto)]
 
 mod failures;
 mod numbers;

@@ -1,7 +1,7 @@
 -- Laws of a pen: writing part by part is writing the whole, and a settled call wrote all of its bytes or none.
-use Rattle.std.proofs.Common.{◌≡◌, ℕ, suc, ◌+◌, ◌-◌, ◌<◌, ◌≤◌, Bool, true, false, cond, ltb, leb, List, [], ◌∷◌, ◌++◌, length, take, sym, refl, ap, ◌∙◌, subst, ⊎_elim, arith, length-append, le-ltb, lt-ltb, le-leb}
-use borrow.Author.Tests.{lt-leb, clash}
-use Rattle.std.proofs.lemmas.List.{append-nil, append_assoc, take-append-le, take_all, take_at, length_push}
+use Rattle.std.proofs.Common.{◌≡◌, ℕ, ◌+◌, ◌-◌, ◌<◌, ◌≤◌, Bool, true, false, cond, leb, List, [], ◌∷◌, ◌++◌, length, take, sym, refl, ap, ◌∙◌, ⊎_elim, arith, length-append, le-ltb, lt-ltb, le-leb}
+use borrow.Author.Tests.{lt-leb}
+use Rattle.std.proofs.lemmas.List.{append-nil, append_assoc, take_at, length_push}
 use Rattle.std.proofs.lemmas.Bool.{cases_lt}
 use Rattle.markup.specs.Pens.{PenState, pen, step, after, afters, joined, fits, settled}
 

@@ -1,5 +1,5 @@
 -- Parts of what is written: one more byte of a value or of a text, and an attribute by its parts.
-use Rattle.std.proofs.Common.{◌≡◌, ℕ, ◌+◌, List, [], ◌∷◌, ◌++◌, codes, sym, refl, ap, ◌∙◌}
+use Rattle.std.proofs.Common.{◌≡◌, ℕ, List, [], ◌∷◌, ◌++◌, codes, sym, refl, ap, ◌∙◌}
 use Rattle.std.proofs.lemmas.List.{append_assoc, append-nil}
 use Rattle.markup.specs.declared.quotes.Quote.{Quote}
 use Rattle.markup.specs.Pens.{joined}

@@ -1,6 +1,6 @@
 -- How the bytes of a value or of a text are written. A byte of a character above U+007F is never escaped, so the same
 -- definitions serve bytes and characters.
-use Rattle.std.specs.Prelude.{ℕ, Bool, cond, List, [], ◌∷◌, ◌++◌, codes, ◌==◌}
+use Rattle.std.specs.Prelude.{ℕ, cond, List, [], ◌∷◌, ◌++◌, codes, ◌==◌}
 use Rattle.markup.specs.declared.quotes.Quote.{Quote}
 use Rattle.markup.specs.declared.quotes.Quote.TheVariants.{Double, Single}
 

@@ -1,5 +1,5 @@
 -- Matrices as they are shown, and the one that is left out.
-use Rattle.std.specs.Prelude.{ℕ, Bool, ◌&&◌, List, [], ◌∷◌, ◌++◌, codes, from_bits, Float}
+use Rattle.std.specs.Prelude.{ℕ, Bool, ◌&&◌, List, ◌++◌, codes, from_bits, Float}
 use Rattle.std.specs.Float.{binary32}
 use Rattle.std.specs.Float.Ieee.{eq}
 use Rattle.markup.specs.Numbers.{shown_rounded}

@@ -1,5 +1,5 @@
 -- What a pen has written: the bytes its store holds, how many it can hold, and whether a byte found no room.
-use Rattle.std.specs.Prelude.{ℕ, ◌+◌, ◌-◌, Bool, true, false, cond, List, [], ◌∷◌, ◌++◌, length, take, nat_le, nat_lt}
+use Rattle.std.specs.Prelude.{ℕ, ◌-◌, Bool, true, false, cond, List, [], ◌∷◌, ◌++◌, length, take, nat_le, nat_lt}
 
 pub record PenState : Type 0 where
   pub held : List ℕ

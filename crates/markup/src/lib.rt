@@ -3,6 +3,7 @@
 //! Writers never fail. A pen writes what fits and remembers whether a byte was lost; the call that began it settles it in
 //! the end, and cuts the store back where not all fitted. So each writer's contract is one equation: the state of the pen
 //! after it is the state before it, after the bytes that the definition in `specs/` names.
+#![tactic(auto)]
 
 pub mod attributes;
 pub mod colors;

@@ -1,5 +1,5 @@
 -- The outcome of close, from what its parts ensure.
-use Rattle.std.proofs.Common.{◌≡◌, ℕ, ◌+◌, ◌-◌, ◌<◌, ◌≤◌, Bool, true, false, List, [], ◌∷◌, ◌++◌, reverse, length, get_or, take, Ok, Err, sym, refl, ap, ◌∙◌, arith}
+use Rattle.std.proofs.Common.{◌≡◌, ℕ, ◌-◌, ◌≤◌, Bool, false, List, ◌∷◌, reverse, length, take, Ok, sym, ap, ◌∙◌}
 use Rattle.stores.specs.declared.Store.{Ghosts}
 use Rattle.markup.specs.declared.pens.Pen.{Pen}
 use Rattle.markup.specs.Pens.{pen, after, fits, settled}
@@ -11,7 +11,7 @@ use Rattle.plates.specs.declared.plates.Plate.{Plate}
 use Rattle.plates.specs.Closing.{ending, end_tags, closing_marks}
 use Rattle.plates.specs.Steps.{closes, judged, added, names_after}
 use Rattle.plates.specs.View.{view}
-use Rattle.plates.proofs.Stacks.{innermost, marks_body}
+use Rattle.plates.proofs.Stacks.{marks_body}
 use Rattle.plates.proofs.Outcomes.{Outcome, outcome}
 
 close_allowed : (names rest : List Element) (name : Element) → names ≡ name ∷ rest → judged names closes ≡ Ok tt

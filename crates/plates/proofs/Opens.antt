@@ -1,5 +1,5 @@
 -- The outcome of open, from what its parts ensure.
-use Rattle.std.proofs.Common.{◌≡◌, ℕ, ◌+◌, ◌≤◌, Bool, true, false, List, [], ◌∷◌, ◌++◌, reverse, length, take, Ok, Err, sym, refl, ap, ◌∙◌, arith}
+use Rattle.std.proofs.Common.{◌≡◌, ℕ, ◌+◌, ◌≤◌, Bool, true, false, List, reverse, length, take, Ok, ap, ◌∙◌, arith}
 use Rattle.stores.specs.declared.Store.{Ghosts}
 use Rattle.markup.specs.declared.pens.Pen.{Pen}
 use Rattle.markup.specs.Pens.{pen, after, fits, settled}

@@ -1,5 +1,5 @@
 -- What a call does, from what its writers and the settling of its pen ensure.
-use Rattle.std.proofs.Common.{◌≡◌, ℕ, ◌+◌, ◌≤◌, Bool, true, false, cond, leb, List, [], ◌∷◌, ◌++◌, length, Ok, Err, sym, refl, ap, ◌∙◌}
+use Rattle.std.proofs.Common.{◌≡◌, ℕ, ◌+◌, ◌≤◌, Bool, true, false, cond, leb, List, ◌++◌, length, Ok, Err, sym, ap, ◌∙◌}
 use Rattle.markup.specs.Pens.{PenState, pen, after, fits, settled}
 use Rattle.markup.proofs.Chains.{Commit, commits}
 use Rattle.drawing.specs.declared.faults.Fault.{Fault}

@@ -1,5 +1,5 @@
 -- The names that are open, outermost first in the plate and innermost first in its state, and their end tags.
-use Rattle.std.proofs.Common.{◌≡◌, ℕ, ◌+◌, ◌-◌, ◌*◌, ◌<◌, ◌≤◌, Bool, true, false, not, ◌&&◌, ltb, ◌⊎◌, List, [], ◌∷◌, ◌++◌, reverse, length, get_or, take, set, codes, sym, refl, ap, ◌∙◌, inl, inr, arith, ltb-true, le-ltb, lt-ltb}
+use Rattle.std.proofs.Common.{◌≡◌, ℕ, ◌+◌, ◌-◌, ◌<◌, ◌≤◌, Bool, true, false, not, ◌&&◌, ltb, ◌⊎◌, List, [], ◌∷◌, reverse, length, get_or, take, set, codes, refl, ap, ◌∙◌, inl, inr, arith, ltb-true, le-ltb, lt-ltb}
 use Rattle.std.proofs.lemmas.List.{take_more, take_more_set, reverse-append, length-append, length-reverse, length-take-le}
 use Rattle.plates.specs.declared.elements.Element.{Element}
 use Rattle.plates.specs.declared.elements.Element.TheVariants.{Svg, G, Defs, Mask, Pattern, LinearGradient, RadialGradient}

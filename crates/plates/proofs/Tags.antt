@@ -1,14 +1,13 @@
 -- The parts of a start tag, joined.
 use Rattle.std.proofs.Common.{◌≡◌, ℕ, ◌<◌, ◌≤◌, List, [], ◌∷◌, ◌++◌, length, codes, sym, refl, ap, ◌∙◌, arith}
-use Rattle.markup.specs.declared.quotes.Quote.{Quote}
 use Rattle.markup.specs.Pens.{joined}
 use Rattle.markup.specs.Attributes.{Attribute, attribute, attributes_then}
 use Rattle.markup.proofs.Written.{attributes_rest, attributes_join}
-use Rattle.std.proofs.lemmas.List.{append_assoc, append-nil}
+use Rattle.std.proofs.lemmas.List.{append-nil}
 use Rattle.drawing.specs.declared.options.WriteOptions.{WriteOptions}
 use Rattle.drawing.specs.Options.{prefix_of}
 use Rattle.plates.specs.declared.elements.Element.{Element}
-use Rattle.plates.specs.Elements.{element_name, quote_of, id_attributes, namespaces, opening_attributes}
+use Rattle.plates.specs.Elements.{element_name, quote_of, id_attributes, namespaces}
 use Rattle.plates.specs.Closing.{start_tag}
 
 -- one attribute after another

@@ -1,5 +1,5 @@
 -- One call on a plate: which rule refuses it, else the bytes it adds and the state it leaves.
-use Rattle.std.specs.Prelude.{ℕ, ◌+◌, Bool, true, false, cond, not, ◌&&◌, List, [], ◌∷◌, ◌++◌, length, Ok, Err, Result, nat_le, nat_lt}
+use Rattle.std.specs.Prelude.{ℕ, ◌+◌, Bool, true, false, cond, not, ◌&&◌, List, [], ◌∷◌, ◌++◌, length, Ok, Err, nat_le, nat_lt}
 use Rattle.drawing.specs.declared.options.WriteOptions.{WriteOptions}
 use Rattle.drawing.specs.declared.names.AId.TheVariants.{Id}
 use Rattle.drawing.specs.declared.faults.Fault.{Fault}

@@ -1,4 +1,4 @@
-use Rattle.std.specs.Prelude.{◌≡◌, ℕ, reverse, take, Ok, Err}
+use Rattle.std.specs.Prelude.{◌≡◌, reverse, take, Ok, Err}
 use Rattle.stores.specs.declared.Store.{Ghosts}
 use Rattle.plates.specs.declared.plates.Plate.{Plate}
 use Rattle.drawing.specs.declared.faults.Fault.{Fault}

@@ -1,4 +1,5 @@
 //! Tests of plates over pages and rolls, through the public calls alone.
+#![tactic(auto)]
 
 #[cfg(test)]
 mod tests {

@@ -1,5 +1,5 @@
 -- Zeros after the bytes held: what one write does to them.
-use Rattle.std.proofs.Common.{◌≡◌, ℕ, suc, ◌+◌, ◌-◌, ◌<◌, ◌≤◌, List, [], ◌∷◌, ◌++◌, length, get_or, take, drop, set, replicate, sym, refl, ap, ◌∙◌, add-one, arith, take-append-drop, length-take}
+use Rattle.std.proofs.Common.{◌≡◌, ℕ, ◌+◌, ◌-◌, ◌<◌, ◌≤◌, List, [], ◌∷◌, ◌++◌, length, get_or, take, drop, set, sym, ap, ◌∙◌, add-one, arith, take-append-drop, length-take}
 use Rattle.std.proofs.lemmas.List.{drop-set-lt, drop-set, drop-drop, drop_at, drop_more, set_at, append_assoc, replicate_more, length-append, length-replicate, length-drop}
 use Rattle.stores.specs.Pages.{zeros, page_image}
 

@@ -1,9 +1,9 @@
 -- A buffer in which n records are laid out, and the writes of a roll into it.
-use Rattle.std.proofs.Common.{◌≡◌, ℕ, suc, ◌+◌, ◌-◌, ◌*◌, ◌/◌, ◌%◌, ◌<◌, ◌≤◌, List, [], ◌∷◌, ◌++◌, length, get_or, take, drop, set, sym, refl, ap, ◌∙◌, subst, mod-lt, arith, length-append, length-take}
+use Rattle.std.proofs.Common.{◌≡◌, ℕ, ◌+◌, ◌*◌, ◌/◌, ◌%◌, ◌<◌, ◌≤◌, List, [], ◌∷◌, ◌++◌, length, get_or, take, set, sym, refl, ap, ◌∙◌, mod-lt, arith, length-take}
 use native.Mathlib.Nat.{div-add-mod}
 use lib.ListN.{length-replicate}
 use lib.Seq.{take-set-lt}
-use Rattle.std.proofs.lemmas.List.{length_push, take_at, take_all, take-append-le, take_more, get_or-take, take-append-drop}
+use Rattle.std.proofs.lemmas.List.{length_push, take_at, take_all, take_more, get_or-take}
 use Rattle.stores.specs.Reach.{reach}
 use Rattle.stores.specs.Pages.{zeros}
 use Rattle.stores.specs.Rolls.{roll_image, roll_text, roll_text_within}

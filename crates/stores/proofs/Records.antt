@@ -1,7 +1,7 @@
 -- Records of a roll: what a write into one does to the image, and that the reader gives back the text.
-use Rattle.std.proofs.Common.{◌≡◌, ℕ, zero, suc, ◌+◌, ◌-◌, ◌*◌, ◌/◌, ◌%◌, ◌<◌, ◌≤◌, min, List, [], ◌∷◌, ◌++◌, length, get_or, take, drop, set, replicate, sym, refl, ap, ◌∙◌, subst, mod-eq_of_lt, arith, length-append, length-drop, take-append-drop, length-take}
+use Rattle.std.proofs.Common.{◌≡◌, ℕ, zero, suc, ◌+◌, ◌-◌, ◌*◌, ◌%◌, ◌<◌, ◌≤◌, List, [], ◌∷◌, ◌++◌, length, get_or, take, drop, set, sym, refl, ap, ◌∙◌, mod-eq_of_lt, arith, length-append, length-drop, take-append-drop, length-take}
 use lib.ListN.{length-replicate}
-use Rattle.std.proofs.lemmas.List.{take_all, drop_all, take_at, drop_at, take-take, drop-take, take-append-le, drop-append-le, set_at, set-append_left, set-append_right, append_assoc, append-nil, get_or_append_left, get_or-append_right, get_or-take, get_or-drop, length_push, replicate-append-replicate, length-set}
+use Rattle.std.proofs.lemmas.List.{take_all, drop_all, take_at, drop_at, take-take, drop-take, take-append-le, drop-append-le, set_at, set-append_left, set-append_right, append_assoc, get_or_append_left, get_or-append_right, get_or-take, get_or-drop, length_push, replicate-append-replicate}
 use Rattle.stores.specs.Pages.{zeros}
 use Rattle.stores.specs.Rolls.{record_image, roll_image, record_text, roll_text}
 

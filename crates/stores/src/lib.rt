@@ -4,6 +4,7 @@
 //! the end and refuses exactly when the store is full; `cut` keeps the first bytes and refuses exactly when fewer are
 //! held; the questions tell the capacity, the count held and the byte at a place. Questions and refusals alter nothing.
 //! [`Page`](pages::Page) and [`Roll`](rolls::Roll) lay the bytes out in a caller's buffer.
+#![tactic(auto)]
 
 ghost use Rattle.std.specs.Prelude.{◌≡◌, ℕ, ◌≤◌, List, length};
 ghost use Rattle.stores.specs.Meaning.{Put, Cut, ByteAt};

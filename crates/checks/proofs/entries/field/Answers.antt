@@ -1,4 +1,4 @@
-use Rattle.std.proofs.Common.{◌≡◌, Some, Ok, Err, Option, sym, ap, ◌∙◌, arith, rules}
+use Rattle.std.proofs.Common.{◌≡◌, Some, Ok, Err, Option, sym, ◌∙◌, rules}
 use Rattle.drawing.specs.declared.names.AId.{AId}
 use Rattle.drawing.specs.declared.faults.ValueFault.{ValueFault}
 use Rattle.drawing.specs.declared.faults.AttributeFault.{AttributeFault}

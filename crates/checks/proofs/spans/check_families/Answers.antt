@@ -1,4 +1,3 @@
-use Rattle.std.proofs.Common.{rules}
 use Rattle.checks.proofs.Loops.{passed}
 use Rattle.checks.proofs.spans.check_families.Goals as goal
 

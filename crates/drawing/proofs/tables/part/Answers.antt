@@ -1,5 +1,5 @@
 use Rattle.std.proofs.Common.{arith, rules}
-use Rattle.std.proofs.lemmas.List.{drop_all, take_all, take-take}
+use Rattle.std.proofs.lemmas.List.{drop_all, take_all}
 use Rattle.drawing.proofs.Views.{part_rest, part_some}
 use Rattle.drawing.proofs.tables.part.Goals as goal
 

@@ -1,6 +1,5 @@
-use Rattle.std.proofs.Common.{◌+◌, ◌-◌, ◌*◌, get_or, drop, sym, ap, ◌∙◌, arith, rules}
+use Rattle.std.proofs.Common.{◌+◌, ◌-◌, ◌*◌, get_or, drop, sym, ◌∙◌, arith, rules}
 use mathlib.Core.Bool.{false≢true}
-use Rattle.mapplate.specs.Numbers.{value_after}
 use Rattle.mapplate.proofs.Numerals.{digits_more, value_more, digits_bad, digits_all, value_all, value_grows}
 use Rattle.mapplate.proofs.numbers.number.Goals as goal
 

@@ -1,4 +1,4 @@
-use Rattle.std.proofs.Common.{is_ok, vec_items, ap, arith, rules}
+use Rattle.std.proofs.Common.{is_ok, vec_items, ap, arith}
 use Rattle.std.proofs.ResultArms.{chosen}
 use Rattle.mapplate.proofs.Texts.{quoted_more, quoted_all}
 use Rattle.mapplate.proofs.quoting.push_quoted.Goals as goal

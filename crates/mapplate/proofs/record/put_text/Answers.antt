@@ -1,4 +1,4 @@
-use Rattle.std.proofs.Common.{is_ok, vec_items, ap, arith, rules}
+use Rattle.std.proofs.Common.{is_ok, vec_items, ap, arith}
 use Rattle.std.proofs.ResultArms.{chosen}
 use Rattle.mapplate.proofs.Texts.{text_more, text_all}
 use Rattle.mapplate.proofs.record.put_text.Goals as goal

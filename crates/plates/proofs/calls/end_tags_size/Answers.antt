@@ -1,4 +1,4 @@
-use Rattle.std.proofs.Common.{◌≡◌, ◌+◌, length, get_or, ap, arith}
+use Rattle.std.proofs.Common.{length, get_or, ap, arith}
 use Rattle.plates.specs.declared.elements.Element.TheVariants.{Svg}
 use Rattle.plates.proofs.Stacks.{end_tags_more, name_short}
 use Rattle.plates.proofs.calls.end_tags_size.Goals as goal

@@ -1,4 +1,4 @@
-use Rattle.std.proofs.Common.{◌≡◌, [], sym, ap, ◌∙◌}
+use Rattle.std.proofs.Common.{◌≡◌, [], ap, ◌∙◌}
 use Rattle.digits.specs.Numerals.{text_of}
 use Rattle.markup.specs.Numbers.{text_or_none, shown_rounded}
 use Rattle.markup.specs.Pens.{after}

@@ -1,4 +1,3 @@
-use Rattle.std.proofs.Common.{[], ◌∷◌, codes}
 use Rattle.markup.specs.State.{state}
 use Rattle.markup.proofs.Chains.{parts}
 use Rattle.markup.proofs.Written.{end_parts, end_whole}

@@ -1,4 +1,4 @@
-use Rattle.std.proofs.Common.{◌≡◌, ◌+◌, ◌-◌, ◌<◌, ◌≤◌, true, false, reverse, take, sym, refl, ap, ◌∙◌, arith}
+use Rattle.std.proofs.Common.{◌-◌, true, false, reverse, take, sym, refl, ◌∙◌, arith}
 use Rattle.markup.specs.State.{state}
 use Rattle.plates.specs.declared.elements.Element.TheVariants.{Svg}
 use Rattle.plates.specs.Steps.{closes}

@@ -1,4 +1,4 @@
-use Rattle.std.proofs.Common.{◌≡◌, not, sym, ap, ◌∙◌, arith, le-ltb}
+use Rattle.std.proofs.Common.{not, sym, ap, ◌∙◌, arith, le-ltb}
 use Rattle.plates.proofs.Stacks.{may_open_deep, may_open_here}
 use Rattle.plates.proofs.plates.Plate.may_open.Goals as goal
 

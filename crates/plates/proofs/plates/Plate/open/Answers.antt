@@ -1,10 +1,9 @@
-use Rattle.std.proofs.Common.{◌≡◌, ◌+◌, ◌<◌, ◌≤◌, true, false, length, sym, refl, ap, ◌∙◌, arith, length-set}
-use Rattle.markup.specs.Pens.{PenState}
+use Rattle.std.proofs.Common.{true, false, sym, refl, ◌∙◌, arith, length-set}
 use Rattle.markup.specs.State.{state}
 use Rattle.plates.specs.Steps.{opens}
 use Rattle.plates.specs.View.{view}
 use Rattle.plates.proofs.Stacks.{one_more, room_for_one}
-use Rattle.plates.proofs.Outcomes.{Outcome, Kept, CutBack, same_plate}
+use Rattle.plates.proofs.Outcomes.{Kept, CutBack, same_plate}
 use Rattle.plates.proofs.Opens.{open_outcome}
 use Rattle.plates.proofs.plates.Plate.open.Goals as goal
 

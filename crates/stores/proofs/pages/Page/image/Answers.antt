@@ -1,4 +1,4 @@
-use Rattle.std.proofs.Common.{◌≡◌, ◌≤◌, length, refl, arith, rules}
+use Rattle.std.proofs.Common.{refl, arith}
 use Rattle.stores.proofs.Blanks.{page_laid}
 use Rattle.stores.proofs.pages.Page.image.Goals as goal
 

@@ -1,5 +1,4 @@
-use Rattle.std.proofs.Common.{◌≡◌, ◌-◌, ◌≤◌, min, ◌++◌, length, drop, sym, refl, ap, ◌∙◌, arith}
-use Rattle.stores.specs.Reach.{reach}
+use Rattle.std.proofs.Common.{◌≡◌, ◌-◌, ◌≤◌, min, ◌++◌, length, drop, sym, ap, ◌∙◌, arith}
 use Rattle.stores.specs.Pages.{zeros}
 use Rattle.stores.proofs.Blanks.{clear_length, clear_beyond}
 use Rattle.stores.proofs.pages.Page.new.Goals as goal

@@ -1,4 +1,4 @@
-use Rattle.std.proofs.Common.{◌≡◌, ◌-◌, ◌≤◌, length, take, drop}
+use Rattle.std.proofs.Common.{◌≡◌, ◌-◌, ◌≤◌, take, drop}
 use Rattle.stores.proofs.pages.PageStore.cut.Given as goal
 
 abbrev pub invariant-loop-self : goal.invariant-loop-self

@@ -1,4 +1,4 @@
-use Rattle.std.proofs.Common.{◌≡◌, ◌<◌, ◌≤◌, min, length, sym, refl, ap, ◌∙◌, arith, rules}
+use Rattle.std.proofs.Common.{min, sym, ap, ◌∙◌, arith, rules}
 use Rattle.std.proofs.lemmas.List.{places, length-set, take_more_set, drop-set-lt}
 use Rattle.stores.proofs.Blanks.{blank_put}
 use Rattle.stores.proofs.pages.PageStore.put.Goals as goal

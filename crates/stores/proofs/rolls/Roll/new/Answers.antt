@@ -1,6 +1,5 @@
-use Rattle.std.proofs.Common.{◌≡◌, ◌*◌, ◌/◌, ◌≤◌, min, [], ◌++◌, length, drop, sym, refl, ap, ◌∙◌, subst, arith}
+use Rattle.std.proofs.Common.{◌≡◌, ◌*◌, ◌/◌, min, [], ◌++◌, length, drop, sym, ap, ◌∙◌, subst}
 use Rattle.stores.specs.Reach.{reach}
-use Rattle.stores.specs.Pages.{zeros}
 use Rattle.stores.proofs.Blanks.{clear_length}
 use Rattle.stores.proofs.Laid.{Laid, in_reach, new_laid}
 use Rattle.stores.proofs.Records.{roll_empty}

@@ -1,4 +1,4 @@
-use Rattle.std.proofs.Common.{◌*◌, ◌<◌, sym, ◌∙◌, arith}
+use Rattle.std.proofs.Common.{◌*◌, ◌<◌, arith}
 use Rattle.stores.specs.Rolls.{roll_text_within}
 use Rattle.stores.proofs.Laid.{spot, in_reach, byte_at}
 use Rattle.stores.proofs.rolls.RollStore.byte.Goals as goal

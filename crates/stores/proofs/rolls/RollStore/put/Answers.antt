@@ -1,7 +1,7 @@
-use Rattle.std.proofs.Common.{◌≡◌, ◌+◌, ◌*◌, ◌/◌, ◌%◌, ◌<◌, ◌≤◌, min, [], ◌∷◌, ◌++◌, length, drop, set, sym, refl, ap, ◌∙◌, subst, arith, rules}
+use Rattle.std.proofs.Common.{◌+◌, ◌*◌, ◌/◌, ◌%◌, min, length, set, sym, refl, ap, ◌∙◌, arith}
 use Rattle.std.proofs.lemmas.List.{length-set, length_push, drop-set-lt}
 use Rattle.stores.specs.Rolls.{roll_text, roll_text_within}
-use Rattle.stores.proofs.Laid.{Laid, spot, as_laid, count_up, last_byte}
+use Rattle.stores.proofs.Laid.{spot, as_laid, count_up, last_byte}
 use Rattle.stores.proofs.rolls.RollStore.put.Goals as goal
 
 pub returns-then-self : goal.returns-then-self
