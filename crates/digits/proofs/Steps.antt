@@ -1,7 +1,7 @@
 -- The three steps of rounding, each with its error: the product, the whole number, the quotient.
 use Rattle.std.proofs.Common.{◌≡◌, ℕ, zero, suc, ◌+◌, ◌*◌, ◌^◌, ◌<◌, ◌≤◌, Bool, true, false, cond, T, eqb, sym, refl, ap, ◌∙◌, subst, mul-le-mul_right, mul_assoc, mul_comm, add-mul, mul-le-mul_left, mul-pos, zero-mul, mul-one, mul_right_comm, div-mul-le_self, le_of_mul-le-mul_right, mul_left_comm, arith}
 use native.Mathlib.Nat.{lt-div-mul-add}
-use lib.Ieee.{Float, nan, inf, fin, binary32, up, down, round, mul, div, unlike, of_int, size}
+use lib.Ieee.{Float, nan, inf, fin, binary32, up, down, round, mul, div, unlike, of_int}
 use lib.Ieee.Fits.{down_pos, round_is}
 use lib.Ieee.Order.{drop, kept}
 use lib.Ieee.Exact.{HasValue, units_val}

@@ -88,8 +88,8 @@ fn halves_at_high_precisions(rt: HostRuntime) {
 
 #[test]
 fn whole_numbers(rt: HostRuntime) {
-    assert!(rt; whole(0).text() == b"0");
-    assert!(rt; whole(400).text() == b"400");
-    assert!(rt; whole(65535).text() == b"65535");
-    assert!(rt; whole(18446744073709551615).text() == b"18446744073709551615");
+    assert!(rt; whole(0).text() == b"0".as_slice());
+    assert!(rt; whole(400).text() == b"400".as_slice());
+    assert!(rt; whole(65535).text() == b"65535".as_slice());
+    assert!(rt; whole(18446744073709551615).text() == b"18446744073709551615".as_slice());
 }

@@ -55,7 +55,7 @@ mod tests {
             &mut answer,
         );
         assert_eq!(rt; answer, 0);
-        assert!(rt; page.text() == b"<g id=\"m\"");
+        assert!(rt; page.text() == b"<g id=\"m\"".as_slice());
         let mut tight = [7u8; 10];
         let page = open_one(
             Page::new(&mut tight),
@@ -65,7 +65,7 @@ mod tests {
         );
         assert_eq!(rt; answer, 9);
         assert_eq!(rt; page.count(), 0);
-        assert!(rt; page.image() == &[0u8; 10]);
+        assert!(rt; page.image() == [0u8; 10].as_slice());
     }
 
     #[test]
