@@ -1,6 +1,6 @@
 -- Each entry's verdict accepts exactly when the entry keeps its rule, and a fault has that rule's number.
 use Rattle.std.proofs.Common.{◌≡◌, ℕ, ◌+◌, ◌<◌, ◌≤◌, Bool, true, false, cond, not, ◌&&◌, eqb, ltb, leb, ◌⊎◌, List, [], ◌∷◌, length, get_or, Ok, Err, Decides, sym, refl, ap, ◌∙◌, inl, inr, arith}
-use Rattle.std.specs.List.{AllByRecursion as All}
+use Rattle.std.specs.List.{AllByRecursion}
 use Rattle.std.proofs.lemmas.Bool.{false≢true, ltb-true, ltb-false, leb-true, leb-false, eqb-true, eqb-false, lt-ltb, le-leb, eq-eqb}
 use Rattle.drawing.specs.declared.faults.ValueFault.{ValueFault}
 use Rattle.drawing.specs.declared.faults.ValueFault.TheVariants as fault
@@ -31,7 +31,7 @@ decides_le a b = (leb-true a b, le-leb a b)
 pub decides_lt : (a b : ℕ) → Decides (ltb a b) (a < b)
 decides_lt a b = (ltb-true a b, lt-ltb a b)
 
-pub decides_every : {X : Type 0} (test : X → Bool) (xs : List X) → Decides (every test xs) (All (λ x. test x ≡ true) xs)
+pub decides_every : {X : Type 0} (test : X → Bool) (xs : List X) → Decides (every test xs) (AllByRecursion (λ x. test x ≡ true) xs)
 unfolding every
 decides_every test [] = ((λ _. tt), (λ _. refl))
 decides_every test (x ∷ xs) = decides_and (test x) (every test xs) _ _ ((λ e. e), (λ e. e)) (decides_every test xs)

@@ -1,7 +1,7 @@
 -- The fold over a family's name finds exactly identifiers joined by single spaces.
 use Rattle.std.proofs.Common.{◌≡◌, ℕ, Bool, true, false, cond, not, ◌||◌, eqb, ◌⊎◌, List, [], ◌∷◌, ◌++◌, map, codes, Decides, fold, sym, refl, ap, ◌∙◌, subst, inl, inr, append_assoc}
 use Rattle.std.specs.Char.{to_ascii_lowercase}
-use Rattle.std.specs.List.{AllByRecursion as All}
+use Rattle.std.specs.List.{AllByRecursion}
 use Rattle.std.proofs.lemmas.List.{append-nil}
 use Rattle.std.proofs.lemmas.Bool.{false≢true, eqb-true}
 use Rattle.checks.specs.declared.families.Spot.{Spot}
@@ -23,7 +23,7 @@ wrong_stays (b ∷ bytes) e = wrong_stays bytes e
 -- inside an identifier: bytes of it, then nothing, or a space and more identifiers
 pub record Rest (bytes : List ℕ) : Type 0 where
   pub run : List ℕ
-  pub goes_on : All (λ b. in_identifier b ≡ true) run
+  pub goes_on : AllByRecursion (λ b. in_identifier b ≡ true) run
   pub ends : (bytes ≡ run) ⊎ ((more : List ℕ) × ((bytes ≡ run ++ (32 ∷ more)) × Identifiers more))
 
 pub record AfterHyphen (bytes : List ℕ) : Type 0 where
@@ -50,7 +50,7 @@ longer b bytes e r = record {
 }
 
 -- an identifier that begins with these bytes
-identifiers_of : (front : List ℕ) (bytes : List ℕ) → ((run : List ℕ) → All (λ b. in_identifier b ≡ true) run → Identifier (front ++ run)) → Rest bytes → Identifiers (front ++ bytes)
+identifiers_of : (front : List ℕ) (bytes : List ℕ) → ((run : List ℕ) → AllByRecursion (λ b. in_identifier b ≡ true) run → Identifier (front ++ run)) → Rest bytes → Identifiers (front ++ bytes)
 identifiers_of front bytes whole r = elim r.ends [
   | inl p ↦ record { first = front ++ r.run; others = []; first_one = whole r.run r.goes_on; other_ones = tt; spelled = ap (λ (l : List ℕ). front ++ l) p }
   | inr p ↦ record {
@@ -64,10 +64,10 @@ identifiers_of front bytes whole r = elim r.ends [
   }
 ]
 
-plain_start : (b : ℕ) → starts_identifier b ≡ true → (run : List ℕ) → All (λ c. in_identifier c ≡ true) run → Identifier (b ∷ run)
+plain_start : (b : ℕ) → starts_identifier b ≡ true → (run : List ℕ) → AllByRecursion (λ c. in_identifier c ≡ true) run → Identifier (b ∷ run)
 plain_start b e run k = record { first = b; others = run; starts = e; goes_on = k; spelled = inl refl }
 
-hyphen_start : (b : ℕ) → starts_identifier b ≡ true → (run : List ℕ) → All (λ c. in_identifier c ≡ true) run → Identifier (45 ∷ (b ∷ run))
+hyphen_start : (b : ℕ) → starts_identifier b ≡ true → (run : List ℕ) → AllByRecursion (λ c. in_identifier c ≡ true) run → Identifier (45 ∷ (b ∷ run))
 hyphen_start b e run k = record { first = b; others = run; starts = e; goes_on = k; spelled = inr refl }
 
 left : (spot : Spot) (bytes : List ℕ) → from spot bytes ≡ true → Left spot bytes
@@ -99,7 +99,7 @@ left Inside (b ∷ bytes) e = go (λ spot. left spot bytes) (in_identifier b) (e
 
 -- ---- and back
 
-inside_run : (run bytes : List ℕ) → All (λ b. in_identifier b ≡ true) run → from Inside (run ++ bytes) ≡ from Inside bytes
+inside_run : (run bytes : List ℕ) → AllByRecursion (λ b. in_identifier b ≡ true) run → from Inside (run ++ bytes) ≡ from Inside bytes
 inside_run [] bytes k = refl
 inside_run (b ∷ run) bytes k = ap (λ (s : Bool). from (cond s Inside (cond (eqb b 32) Start Wrong)) (run ++ bytes)) k.0 ∙ inside_run run bytes k.1
 
@@ -111,7 +111,7 @@ identifier_run one bytes i = elim i.spelled [
       ∙ (ap (λ (s : Bool). from (cond s Inside Wrong) (i.others ++ bytes)) i.starts ∙ inside_run i.others bytes i.goes_on)
 ]
 
-all_spaced : (first : List ℕ) (others : List (List ℕ)) → Identifier first → All Identifier others → from Start (spaced first others) ≡ true
+all_spaced : (first : List ℕ) (others : List (List ℕ)) → Identifier first → AllByRecursion Identifier others → from Start (spaced first others) ≡ true
 all_spaced first [] i k = ap (from Start) (sym (append-nil first)) ∙ identifier_run first [] i
 all_spaced first (next ∷ others) i k = identifier_run first (32 ∷ spaced next others) i ∙ all_spaced next others k.0 k.1
 
@@ -142,7 +142,7 @@ decides_generic bytes =
     (decides_neither _ _ _ _ (decides_not_word (codes "cursive") bytes)
     (decides_neither _ _ _ _ (decides_not_word (codes "fantasy") bytes) (decides_not_word (codes "monospace") bytes))))
 
-decides_reserved : (bytes : List ℕ) → Decides (not (reserved_word bytes)) (All (Not bytes) reserved)
+decides_reserved : (bytes : List ℕ) → Decides (not (reserved_word bytes)) (AllByRecursion (Not bytes) reserved)
 decides_reserved bytes =
     let d = decides_neither _ _ _ _ (decides_generic bytes)
     (decides_neither _ _ _ _ (decides_not_word (codes "inherit") bytes)

@@ -1,6 +1,6 @@
 -- The verdict on a row's entries is the first fault in the order of the tests.
 use Rattle.std.proofs.Common.{◌≡◌, Bool, true, false, cond, eqb, List, [], ◌∷◌, ◌++◌, Ok, Err, Decides, filter, sym, refl, ap, ◌∙◌, subst}
-use Rattle.std.specs.List.{AllByRecursion as All}
+use Rattle.std.specs.List.{AllByRecursion}
 use Rattle.std.proofs.lemmas.List.Elements.{filter-append}
 use Rattle.std.proofs.ByRecursion.{All-append, all_kept_by}
 use Rattle.std.proofs.lemmas.Bool.{false≢true, eq-eqb}
@@ -62,7 +62,7 @@ by_rules_is fields =
 -- ---- what it says
 
 abbrev pub Outcome : List Field → Verdict AttributeFault → Type 0
-Outcome fs (Ok x) = All Kept fs
+Outcome fs (Ok x) = AllByRecursion Kept fs
 Outcome fs (Err f) = FirstBroken fs f
 
 push : (f : Field) (fs : List Field) (v : Verdict AttributeFault) → Kept f → Outcome fs v → Outcome (f ∷ fs) v
@@ -96,7 +96,7 @@ outcome (f ∷ fs) = go (outcome fs) (entry_verdict f.entry) refl
     }
 
 -- a list whose fields all keep their rules has no fault
-pub no_fault : (fs : List Field) → All Kept fs → first_broken fs ≡ Ok tt
+pub no_fault : (fs : List Field) → AllByRecursion Kept fs → first_broken fs ≡ Ok tt
 no_fault [] k = refl
 no_fault (f ∷ fs) k = go (no_fault fs k.1) (entry_verdict f.entry) refl
   where
@@ -104,12 +104,12 @@ no_fault (f ∷ fs) k = go (no_fault fs k.1) (entry_verdict f.entry) refl
     go rest (Ok x) e = rest
     go rest (Err v) e = absurd (false≢true (sym (ap accepts e) ∙ (decides_entry f.entry).1 k.0))
 
-pub all_of : (fs : List Field) (v : Verdict AttributeFault) → first_broken fs ≡ v → accepts v ≡ true → All Kept fs
+pub all_of : (fs : List Field) (v : Verdict AttributeFault) → first_broken fs ≡ v → accepts v ≡ true → AllByRecursion Kept fs
 all_of fs (Ok x) e k = subst (λ (v : Verdict AttributeFault). Outcome fs v) e (outcome fs)
 all_of fs (Err f) e k = absurd (false≢true k)
 
 -- one rule over a row
-pub decides_rule : (r : Rule) (fields : Fields) → Decides (accepts (first_at r fields)) (All Kept (tested_by r fields))
+pub decides_rule : (r : Rule) (fields : Fields) → Decides (accepts (first_at r fields)) (AllByRecursion Kept (tested_by r fields))
 decides_rule r fields = (
   (λ e. all_of (tested_by r fields) (first_at r fields) (sym (first_is r fields)) e),
   (λ k. ap accepts (first_is r fields ∙ no_fault (tested_by r fields) k)),
@@ -120,44 +120,44 @@ decides_rule r fields = (
 of_own_rule : (e : Entry) → eqb (rule_number (rule_of e)) (rule_number (rule_of e)) ≡ true
 of_own_rule e = eq-eqb _ _ refl
 
-kept_head : (P : Field → Type 0) (b : Bool) (f : Field) (fs : List Field) → b ≡ true → All P (cond b (f ∷ fs) fs) → P f
+kept_head : (P : Field → Type 0) (b : Bool) (f : Field) (fs : List Field) → b ≡ true → AllByRecursion P (cond b (f ∷ fs) fs) → P f
 kept_head P true f fs e k = k.0
 kept_head P false f fs e k = absurd (false≢true e)
 
-kept_tail : (P : Field → Type 0) (b : Bool) (f : Field) (fs : List Field) → All P (cond b (f ∷ fs) fs) → All P fs
+kept_tail : (P : Field → Type 0) (b : Bool) (f : Field) (fs : List Field) → AllByRecursion P (cond b (f ∷ fs) fs) → AllByRecursion P fs
 kept_tail P true f fs k = k.1
 kept_tail P false f fs k = k
 
 -- what every rule finds right is right
-pub by_parts : (fs : List Field) → ((r : Rule) → All Kept (filter (has_rule r) fs)) → All Kept fs
+pub by_parts : (fs : List Field) → ((r : Rule) → AllByRecursion Kept (filter (has_rule r) fs)) → AllByRecursion Kept fs
 by_parts [] k = tt
 by_parts (f ∷ fs) k = (
   kept_head Kept (has_rule (rule_of f.entry) f) f (filter (has_rule (rule_of f.entry)) fs) (of_own_rule f.entry) (k (rule_of f.entry)),
   by_parts fs (λ r. kept_tail Kept (has_rule r f) f (filter (has_rule r) fs) (k r)),
 )
 
-all_left : (xs ys : List Field) → All Kept (xs ++ ys) → All Kept xs
+all_left : (xs ys : List Field) → AllByRecursion Kept (xs ++ ys) → AllByRecursion Kept xs
 all_left [] ys k = tt
 all_left (x ∷ xs) ys k = (k.0, all_left xs ys k.1)
 
-pub all_right : (xs ys : List Field) → All Kept (xs ++ ys) → All Kept ys
+pub all_right : (xs ys : List Field) → AllByRecursion Kept (xs ++ ys) → AllByRecursion Kept ys
 all_right [] ys k = k
 all_right (x ∷ xs) ys k = all_right xs ys k.1
 
 -- all entries of a row keep their rules: those of the places, and those in the order of the tests
-pub all_listed : (fields : Fields) → All Kept (tested_by rule.Place fields) → All Kept (ordered fields) → All Kept (listed fields)
+pub all_listed : (fields : Fields) → AllByRecursion Kept (tested_by rule.Place fields) → AllByRecursion Kept (ordered fields) → AllByRecursion Kept (listed fields)
 all_listed fields p o = by_parts (listed fields) go
   where
-    after_id : All Kept (tested_by rule.Empty fields ++ (tested_by rule.Number fields ++ (tested_by rule.Text fields ++ tested_by rule.Family fields)))
+    after_id : AllByRecursion Kept (tested_by rule.Empty fields ++ (tested_by rule.Number fields ++ (tested_by rule.Text fields ++ tested_by rule.Family fields)))
     after_id = all_right (tested_by rule.Id fields) _ o
 
-    after_empty : All Kept (tested_by rule.Number fields ++ (tested_by rule.Text fields ++ tested_by rule.Family fields))
+    after_empty : AllByRecursion Kept (tested_by rule.Number fields ++ (tested_by rule.Text fields ++ tested_by rule.Family fields))
     after_empty = all_right (tested_by rule.Empty fields) _ after_id
 
-    after_number : All Kept (tested_by rule.Text fields ++ tested_by rule.Family fields)
+    after_number : AllByRecursion Kept (tested_by rule.Text fields ++ tested_by rule.Family fields)
     after_number = all_right (tested_by rule.Number fields) _ after_empty
 
-    go : (r : Rule) → All Kept (tested_by r fields)
+    go : (r : Rule) → AllByRecursion Kept (tested_by r fields)
     go rule.Place = p
     go rule.Id = all_left (tested_by rule.Id fields) _ o
     go rule.Empty = all_left (tested_by rule.Empty fields) _ after_id
@@ -165,15 +165,15 @@ all_listed fields p o = by_parts (listed fields) go
     go rule.Text = all_left (tested_by rule.Text fields) _ after_number
     go rule.Family = all_right (tested_by rule.Text fields) _ after_number
 
-pub listed_places : (fields : Fields) → All Kept (listed fields) → All Kept (tested_by rule.Place fields)
+pub listed_places : (fields : Fields) → AllByRecursion Kept (listed fields) → AllByRecursion Kept (tested_by rule.Place fields)
 listed_places fields k = all_kept_by (has_rule rule.Place) Kept (listed fields) k
 
-pub listed_ordered : (fields : Fields) → All Kept (listed fields) → All Kept (ordered fields)
+pub listed_ordered : (fields : Fields) → AllByRecursion Kept (listed fields) → AllByRecursion Kept (ordered fields)
 listed_ordered fields k =
     All-append Kept (tested_by rule.Id fields) _ (part rule.Id)
     (All-append Kept (tested_by rule.Empty fields) _ (part rule.Empty)
     (All-append Kept (tested_by rule.Number fields) _ (part rule.Number)
     (All-append Kept (tested_by rule.Text fields) _ (part rule.Text) (part rule.Family))))
   where
-    part : (r : Rule) → All Kept (tested_by r fields)
+    part : (r : Rule) → AllByRecursion Kept (tested_by r fields)
     part r = all_kept_by (has_rule r) Kept (listed fields) k

@@ -1,6 +1,6 @@
 -- A call's checks accept exactly the sound drawings, and a refusal names the first broken entry.
 use Rattle.std.proofs.Common.{◌≡◌, ℕ, zero, suc, ◌+◌, ◌-◌, ◌<◌, ◌≤◌, Bool, true, false, cond, ◌&&◌, eqb, ltb, leb, List, [], ◌∷◌, length, Some, None, Ok, Err, Decides, filter, sym, refl, ◌∙◌, subst, inl, inr, arith}
-use Rattle.std.specs.List.{AllByRecursion as All}
+use Rattle.std.specs.List.{AllByRecursion}
 use Rattle.std.proofs.lemmas.Bool.{false≢true, ltb-true, leb-true, lt-ltb, le-leb, and_parts, cases_lt}
 use Rattle.drawing.specs.declared.faults.AttributeFault.{AttributeFault}
 use Rattle.drawing.specs.declared.faults.NodeFault.{NodeFault}
@@ -140,9 +140,9 @@ table_of d node t =
 -- ---- draw
 
 -- a field that is not kept stands in no list of kept ones
-not_all : (fs : List Field) (f : AttributeFault) → FirstBroken fs f → All Kept fs → ⊥
+not_all : (fs : List Field) (f : AttributeFault) → FirstBroken fs f → AllByRecursion Kept fs → ⊥
 not_all fs f b k =
-    b.not_kept (all_right b.earlier (b.broken ∷ b.later) (subst (λ (l : List Field). All Kept l) b.split k)).0
+    b.not_kept (all_right b.earlier (b.broken ∷ b.later) (subst (λ (l : List Field). AllByRecursion Kept l) b.split k)).0
 
 pub draw_stands : DrawStands
 draw_stands d node = go (table_stands d node) refl (nodes_verdict d node (node_at d node).end) (nodes_outcome ((node_at d node).end - node) d node (node_at d node).end refl)
@@ -176,20 +176,20 @@ unfolding each
 no_stops r h [] = refl
 no_stops r h (s ∷ ss) = rw h (no_stops r h ss)
 
-numbers_alone : (d : Drawing) (row : ℕ) → All Kept (tested_by rule.Place (gradient_fields d row)) → All Kept (tested_by rule.Number (gradient_fields d row))
-    → All Kept (listed (gradient_fields d row))
+numbers_alone : (d : Drawing) (row : ℕ) → AllByRecursion Kept (tested_by rule.Place (gradient_fields d row)) → AllByRecursion Kept (tested_by rule.Number (gradient_fields d row))
+    → AllByRecursion Kept (listed (gradient_fields d row))
 numbers_alone d row p n = by_parts (listed (gradient_fields d row)) go
   where
     stops : List Stop
     stops = entries d.stops.now (gradient_at d row).stops
 
-    go : (r : Rule) → All Kept (tested_by r (gradient_fields d row))
+    go : (r : Rule) → AllByRecursion Kept (tested_by r (gradient_fields d row))
     go rule.Place = p
     go rule.Number = n
-    go rule.Id = subst (λ (l : List Field). All Kept l) (sym (no_stops rule.Id refl stops)) tt
-    go rule.Empty = subst (λ (l : List Field). All Kept l) (sym (no_stops rule.Empty refl stops)) tt
-    go rule.Text = subst (λ (l : List Field). All Kept l) (sym (no_stops rule.Text refl stops)) tt
-    go rule.Family = subst (λ (l : List Field). All Kept l) (sym (no_stops rule.Family refl stops)) tt
+    go rule.Id = subst (λ (l : List Field). AllByRecursion Kept l) (sym (no_stops rule.Id refl stops)) tt
+    go rule.Empty = subst (λ (l : List Field). AllByRecursion Kept l) (sym (no_stops rule.Empty refl stops)) tt
+    go rule.Text = subst (λ (l : List Field). AllByRecursion Kept l) (sym (no_stops rule.Text refl stops)) tt
+    go rule.Family = subst (λ (l : List Field). AllByRecursion Kept l) (sym (no_stops rule.Family refl stops)) tt
 
 decides_gradient_table : (d : Drawing) (row : ℕ) → Decides (gradient_stands d row) (GradientTabled d row)
 decides_gradient_table d row = decides_and _ _ _ _ (decides_fit d) (decides_rule rule.Place (gradient_fields d row))
@@ -204,7 +204,7 @@ gradient_check_stands d row = go (gradient_stands d row) refl (first_at rule.Num
     placed : GradientSound d row → GradientTabled d row
     placed s = (s.0, listed_places (gradient_fields d row) s.1)
 
-    numbered : GradientSound d row → All Kept (tested_by rule.Number (gradient_fields d row))
+    numbered : GradientSound d row → AllByRecursion Kept (tested_by rule.Number (gradient_fields d row))
     numbered s = all_kept_by (has_rule rule.Number) Kept (listed (gradient_fields d row)) s.1
 
     go : (b : Bool) → gradient_stands d row ≡ b → (v : Verdict AttributeFault) → Outcome (tested_by rule.Number (gradient_fields d row)) v

@@ -1,7 +1,7 @@
 -- Which family names go without quotes, in the words of CSS.
 use Rattle.std.specs.Prelude.{◌≡◌, ℕ, true, ◌⊎◌, List, [], ◌∷◌, ◌++◌, map, codes, Decides, ◌≢◌}
 use Rattle.std.specs.Char.{to_ascii_lowercase}
-use Rattle.std.specs.List.{AllByRecursion as All}
+use Rattle.std.specs.List.{AllByRecursion}
 use Rattle.checks.specs.Families.{starts_identifier, in_identifier, bare_name}
 
 -- a byte that starts an identifier, perhaps after a hyphen, and then bytes of identifiers
@@ -9,7 +9,7 @@ pub record Identifier (bytes : List ℕ) : Type 0 where
   pub first : ℕ
   pub others : List ℕ
   pub starts : starts_identifier first ≡ true
-  pub goes_on : All (λ b. in_identifier b ≡ true) others
+  pub goes_on : AllByRecursion (λ b. in_identifier b ≡ true) others
   pub spelled : (bytes ≡ first ∷ others) ⊎ (bytes ≡ 45 ∷ (first ∷ others))
 
 -- words with one space between each two
@@ -22,7 +22,7 @@ pub record Identifiers (bytes : List ℕ) : Type 0 where
   pub first : List ℕ
   pub others : List (List ℕ)
   pub first_one : Identifier first
-  pub other_ones : All Identifier others
+  pub other_ones : AllByRecursion Identifier others
   pub spelled : bytes ≡ spaced first others
 
 -- the words that mean something else in font-family: generic families, and words of CSS
@@ -35,4 +35,4 @@ reserved =
 abbrev pub BareNamesStand : Type 0
 BareNamesStand =
     (bytes : List ℕ)
-    → Decides (bare_name bytes) (Identifiers bytes × All (λ letters. map to_ascii_lowercase bytes ≢ letters) reserved)
+    → Decides (bare_name bytes) (Identifiers bytes × AllByRecursion (λ letters. map to_ascii_lowercase bytes ≢ letters) reserved)

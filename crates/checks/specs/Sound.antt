@@ -1,6 +1,6 @@
 -- What the rules want, said of every entry of a drawing, and what a refusal then says.
 use Rattle.std.specs.Prelude.{◌≡◌, ℕ, suc, ◌+◌, ◌<◌, ◌≤◌, Bool, true, ◌⊎◌, List, [], ◌∷◌, ◌++◌, length, Some, None, Err, Decides, filter, Option, ◌==◌, slice_index}
-use Rattle.std.specs.List.{AllByRecursion as All}
+use Rattle.std.specs.List.{AllByRecursion}
 use Rattle.drawing.specs.declared.names.AId.{AId}
 use Rattle.drawing.specs.declared.faults.AttributeFault.{AttributeFault}
 use Rattle.drawing.specs.declared.faults.NodeFault.{NodeFault}
@@ -29,7 +29,7 @@ use Rattle.checks.specs.Calls.{draw_verdict, gradient_verdict}
 
 -- at most 64 id bytes
 abbrev pub Id : List ℕ → Type 0
-Id bytes = (length bytes ≤ 64) × All (λ b. id_byte b ≡ true) bytes
+Id bytes = (length bytes ≤ 64) × AllByRecursion (λ b. id_byte b ≡ true) bytes
 
 -- the end of the bytes, or a byte that does not go on with a character
 abbrev pub CharacterBound : List ℕ → ℕ → Type 0
@@ -47,7 +47,7 @@ Keeps (begins_with_move segments) = (p : Point) × (others : List PathSegment) �
 Keeps (number_in domain x) = (shown_in domain x ≡ true) × (in_range domain x ≡ true)
 Keeps (text_of bytes) = Text bytes
 Keeps (span_of bytes start end) = (start ≤ end) × (CharacterBound bytes start × CharacterBound bytes end)
-Keeps (family_name bytes) = All (λ b. plain_byte b ≡ true) bytes
+Keeps (family_name bytes) = AllByRecursion (λ b. plain_byte b ≡ true) bytes
 
 -- ---- the entries of a row
 
@@ -132,7 +132,7 @@ pub record Limited (d : Drawing) : Type 0 where
 
 -- the entries of the node i keep their rules, all of them or some
 abbrev pub EntriesAt : (Fields → List Field) → Drawing → ℕ → Type 0
-EntriesAt some d i = All Kept (some (node_fields d (node_at d i)))
+EntriesAt some d i = AllByRecursion Kept (some (node_fields d (node_at d i)))
 
 -- the table rule at a node that is drawn: it and its descendants are a tree in preorder, and rows and places are there
 pub record Tabled (d : Drawing) (node : ℕ) : Type 0 where
@@ -151,10 +151,10 @@ pub record Sound (d : Drawing) (node : ℕ) : Type 0 where
 
 -- and at a gradient row
 abbrev pub GradientTabled : Drawing → ℕ → Type 0
-GradientTabled d row = Limited d × All Kept (tested_by rule.Place (gradient_fields d row))
+GradientTabled d row = Limited d × AllByRecursion Kept (tested_by rule.Place (gradient_fields d row))
 
 abbrev pub GradientSound : Drawing → ℕ → Type 0
-GradientSound d row = Limited d × All Kept (listed (gradient_fields d row))
+GradientSound d row = Limited d × AllByRecursion Kept (listed (gradient_fields d row))
 
 -- ---- refusals
 
@@ -164,7 +164,7 @@ pub record FirstBroken (fields : List Field) (f : AttributeFault) : Type 0 where
   pub broken : Field
   pub later : List Field
   pub split : fields ≡ earlier ++ (broken ∷ later)
-  pub earlier_kept : All Kept earlier
+  pub earlier_kept : AllByRecursion Kept earlier
   pub not_kept : Kept broken → ⊥
   pub rule_is : value_number f.fault ≡ rule_number (rule_of broken.entry)
   pub attribute_is : f.attribute ≡ broken.attribute

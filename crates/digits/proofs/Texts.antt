@@ -7,7 +7,7 @@ use Rattle.std.proofs.lemmas.Str.Parse.{IsNumeralModel, numerals_by_fold, digits
 use Rattle.std.proofs.lemmas.Bool.Decides.{nat_tests}
 use Rattle.std.specs.Int.{IsInRange}
 use Rattle.std.specs.Fmt.{sign_text}
-use Rattle.std.specs.List.{AllByRecursion as All}
+use Rattle.std.specs.List.{AllByRecursion}
 use Rattle.std.specs.Str.{all_ascii_digits}
 use Rattle.digits.specs.Decimals.{said_after, said, minus, after_minus, without_point, behind_point, units, places, reads, nearest_float, after_point, Plain, NumberByte, figures, pointed, spelling}
 
@@ -277,19 +277,19 @@ pub lowest_units : (n k n' k' : ℕ) → k ≡ k' → n * 10 ^ k' ≡ n' * 10 ^ 
 lowest_units n k n' k' q e = eq_of_mul-eq-mul_right (10 ^ k') (ten_pos k') n n' (e ∙ ap (λ (z : ℕ). n' * 10 ^ z) q)
 
 -- ---- the bytes of a plain text
-digits_bytes : (ds es : List ℕ) → all_ascii_digits ds ≡ true → All NumberByte es → All NumberByte (ds ++ es)
+digits_bytes : (ds es : List ℕ) → all_ascii_digits ds ≡ true → AllByRecursion NumberByte es → AllByRecursion NumberByte (ds ++ es)
 digits_bytes [] es h a = a
 digits_bytes (c ∷ cs) es h a = (inr (inr (digit c cs h)), digits_bytes cs es (digits c cs h) a)
 
-point_bytes : (fs : List ℕ) → all_ascii_digits fs ≡ true → All NumberByte (after_point fs)
+point_bytes : (fs : List ℕ) → all_ascii_digits fs ≡ true → AllByRecursion NumberByte (after_point fs)
 point_bytes [] h = tt
-point_bytes (c ∷ cs) h = (inr (inl refl), subst (All NumberByte) (append-nil (c ∷ cs)) (digits_bytes (c ∷ cs) [] h tt))
+point_bytes (c ∷ cs) h = (inr (inl refl), subst (AllByRecursion NumberByte) (append-nil (c ∷ cs)) (digits_bytes (c ∷ cs) [] h tt))
 
-sign_bytes : (s : Bool) (bs : List ℕ) → All NumberByte bs → All NumberByte (sign_text s ++ bs)
+sign_bytes : (s : Bool) (bs : List ℕ) → AllByRecursion NumberByte bs → AllByRecursion NumberByte (sign_text s ++ bs)
 sign_bytes true bs a = (inl refl, a)
 sign_bytes false bs a = a
 
-pub plain_bytes : (bs : List ℕ) → Plain bs → All NumberByte bs
+pub plain_bytes : (bs : List ℕ) → Plain bs → AllByRecursion NumberByte bs
 plain_bytes bs p =
-    subst (All NumberByte) (sym p.spelled)
+    subst (AllByRecursion NumberByte) (sym p.spelled)
     (sign_bytes p.negative (p.whole ++ after_point p.fraction) (digits_bytes p.whole (after_point p.fraction) p.whole_digits (point_bytes p.fraction p.fraction_digits)))

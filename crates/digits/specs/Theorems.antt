@@ -3,7 +3,7 @@ use Rattle.std.specs.Prelude.{◌≡◌, ℕ, ◌*◌, ◌%◌, ◌^◌, ◌<◌
 use Rattle.std.specs.Float.{nan, inf, binary32}
 use Rattle.std.specs.Float.Ieee.{fits}
 use Rattle.std.specs.Float.Ieee.Scale.{finite}
-use Rattle.std.specs.List.{AllByRecursion as All}
+use Rattle.std.specs.List.{AllByRecursion}
 use Rattle.digits.specs.Decimals.{nearest_float, minus, units, places, reads, Plain, NumberByte}
 use Rattle.digits.specs.Magnitudes.{grains, bare_domain, rounded_domain}
 use Rattle.digits.specs.Bare.{away, bare, Shows}
@@ -49,7 +49,7 @@ WholeStands = (n : ℕ) → n < 2 ^ 64 → SaysWhole n (decimal n) × ((bs : Lis
 
 -- a plain text has only the bytes of numbers, so none that markup has to escape
 abbrev pub PlainStands : Type 0
-PlainStands = (bs : List ℕ) → Plain bs → All NumberByte bs
+PlainStands = (bs : List ℕ) → Plain bs → AllByRecursion NumberByte bs
 
 -- ---- known texts, each beside the number that it shows
 
