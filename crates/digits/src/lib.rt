@@ -5,7 +5,6 @@
 // Nothing here allocates.
 #![tactic(auto)]
 
-pub mod exports;
 pub mod numerals;
 mod places;
 mod rounding;

@@ -1,6 +1,6 @@
 -- The outline of a node: the elements that its rows mean, every field given and nothing left out. It is defined from the rows
 -- alone. Ids have the call's prefix before them; an empty id is none.
-use Rattle.std.specs.Prelude.{ℕ, zero, suc, ◌+◌, ◌-◌, Bool, true, false, cond, List, [], ◌∷◌, ◌++◌, take, drop, Some, None, codes, Option, ◌==◌, nat_lt, Float}
+use Rattle.std.specs.Prelude.{ℕ, zero, suc, ◌+◌, ◌-◌, cond, List, [], ◌∷◌, ◌++◌, take, drop, Some, None, codes, Option, ◌==◌, nat_lt, Float}
 use Rattle.std.specs.Str.{chars}
 use Rattle.markup.specs.Trees.{Forest, empty, element, characters, followed_by}
 use Rattle.drawing.specs.declared.options.WriteOptions.{WriteOptions}

@@ -1,7 +1,7 @@
 -- Reading a decimal number digit by digit.
-use Rattle.std.proofs.Common.{◌≡◌, ℕ, ◌+◌, ◌-◌, ◌*◌, ◌<◌, ◌≤◌, Bool, true, false, ◌&&◌, List, [], ◌∷◌, length, get_or, drop, sym, refl, ap, ◌∙◌, subst, arith}
+use Rattle.std.proofs.Common.{◌≡◌, ℕ, ◌+◌, ◌-◌, ◌*◌, ◌<◌, ◌≤◌, true, false, ◌&&◌, List, [], ◌∷◌, length, get_or, drop, sym, ap, ◌∙◌, arith}
 use Rattle.std.proofs.lemmas.List.{at_drop_more, at_drop_all}
-use Rattle.scripts.specs.Numbers.{digit, digits, value_after, value, Numeral}
+use Rattle.scripts.specs.Numbers.{digit, digits, value_after}
 
 -- one digit more
 pub digits_more : (word : List ℕ) (i d : ℕ) → i < length word → digit (get_or word i d) ≡ true → digits (drop (i + 1) word) ≡ digits (drop i word)

@@ -1,5 +1,5 @@
 -- The bits of a NaN.
-use Rattle.std.proofs.Common.{◌≡◌, ℕ, zero, suc, ◌/◌, ◌%◌, Bool, true, false, cond, not, ◌&&◌, eqb, leb, sym, refl, ap, ◌∙◌}
+use Rattle.std.proofs.Common.{◌≡◌, ℕ, zero, suc, ◌/◌, ◌%◌, Bool, true, false, cond, not, ◌&&◌, eqb, leb, refl}
 use mathlib.Core.Bool.{false≢true}
 use lib.Ieee.{binary32, of_bits, of_fields, nan_bits, nan, inf, Float}
 use Rattle.scripts.specs.Floats.{nan_pattern}

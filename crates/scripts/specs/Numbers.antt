@@ -1,5 +1,5 @@
 -- Decimal numbers and hexadecimal digits, as bytes say them.
-use Rattle.std.specs.Prelude.{◌≡◌, ℕ, ◌+◌, ◌-◌, ◌*◌, ◌<◌, ◌≤◌, Bool, true, false, cond, ◌&&◌, List, [], ◌∷◌, length, Some, None, Option, MatchOption, nat_le, nat_lt}
+use Rattle.std.specs.Prelude.{◌≡◌, ℕ, ◌+◌, ◌-◌, ◌*◌, ◌<◌, ◌≤◌, Bool, true, cond, ◌&&◌, List, [], ◌∷◌, length, Some, None, Option, MatchOption, nat_le, nat_lt}
 
 abbrev pub digit : ℕ → Bool
 digit b = nat_le 48 b && nat_le b 57

@@ -125,7 +125,7 @@ pub fn take_fill(words: &mut Words, pool: &mut Vec<u8>) -> Result<Fill, Failure>
         Some(b"{") => take_fields(words, pool),
         Some(word) => Ok(Fill {
             paint: paint_from(word, words, pool)?,
-            ..FillRow::BLANK
+            ..Fill::BLANK
         }),
     }
 }
@@ -137,7 +137,7 @@ pub fn take_stroke(words: &mut Words, pool: &mut Vec<u8>) -> Result<Stroke, Fail
         Some(b"{") => take_fields(words, pool),
         Some(word) => Ok(Stroke {
             paint: paint_from(word, words, pool)?,
-            ..StrokeRow::BLANK
+            ..Stroke::BLANK
         }),
     }
 }

@@ -38,7 +38,7 @@ pub fn take_fields<R: Row>(words: &mut Words, pool: &mut Vec<u8>) -> Result<R, F
         let Some(name) = words.take() else {
             break;
         };
-        if name == b"}" {
+        if name == b"}".as_slice() {
             return Ok(row);
         }
         if !row.set(name, words, pool)? {
@@ -53,7 +53,7 @@ pub fn take_struct<R: Row>(words: &mut Words, pool: &mut Vec<u8>) -> Result<R, F
     let Some(word) = words.take() else {
         return Err(words.ended(Expected::OpeningBrace));
     };
-    if word != b"{" {
+    if word != b"{".as_slice() {
         return Err(words.instead(Expected::OpeningBrace, word));
     }
     take_fields(words, pool)

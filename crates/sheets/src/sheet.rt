@@ -40,8 +40,9 @@ fn add_row<R: Row + Drop>(
     times: usize,
     words: &mut Words,
 ) -> Result<(), Failure> {
-    let row = take_row(words, pool)?;
-    append(words, list, &[row], times)
+    let mut rows = Vec::new(words.heap);
+    rows.push(take_row(words, pool)?)?;
+    append(words, list, rows.as_slice(), times)
 }
 
 /// Adds the entries of a line, so many times over.
@@ -150,7 +151,7 @@ impl Sheet {
 
     /// Reads a statement that begins with a word, where it is one of a table.
     pub fn read(&mut self, name: &[u8], words: &mut Words) -> Result<bool, Failure> {
-        if name == b"repeat" {
+        if name == b"repeat".as_slice() {
             self.add_repeated(words)?;
             return Ok(true);
         }

@@ -1,5 +1,5 @@
 -- The cascade: an element's own value of a property; else its parent's where the property inherits; else the absent value.
-use Rattle.std.specs.Prelude.{ℕ, Bool, true, false, cond, List, [], ◌∷◌}
+use Rattle.std.specs.Prelude.{ℕ, cond, List, [], ◌∷◌}
 use Rattle.std.specs.Str.{bytes_eq}
 use Rattle.markup.specs.Trees.{Forest, empty, character, element}
 use Rattle.svg.specs.Values.{Value, none, number, dimension, weight, numbers, offsets, keyword, color, reference, references, matrix, families, path, text, inherit, initial, unset, unread}

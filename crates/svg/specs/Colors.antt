@@ -1,6 +1,6 @@
 -- Colours: #rgb and #rrggbb, rgb(..) with three whole numbers or three percentages, and the 147 names of SVG 1.1.
 -- Colours with an alpha (#rgba, #rrggbbaa, transparent) and the other functions of CSS Color 4 are not read here.
-use Rattle.std.specs.Prelude.{ℕ, ◌+◌, ◌-◌, ◌*◌, ◌/◌, min, Bool, true, false, cond, not, ◌&&◌, ◌||◌, List, [], ◌∷◌, Some, None, codes, Option, nat_eq}
+use Rattle.std.specs.Prelude.{ℕ, ◌+◌, ◌-◌, ◌*◌, ◌/◌, min, Bool, cond, ◌&&◌, ◌||◌, List, [], ◌∷◌, Some, None, codes, Option, nat_eq}
 use Rattle.svg.specs.Values.{Value, color, keyword, ReadNumber}
 use Rattle.svg.specs.Texts.{between, digit, taken, left, skip_white, is_empty, at_end, behind, behind_word, pieces, then, or_else, only_if, to_bracket}
 use Rattle.svg.specs.Numbers.{Numeral, count, above, below, take_number}

@@ -2,7 +2,7 @@
 -- them, which name a family with one space between each two. An identifier without escapes is an optional hyphen, a letter, an
 -- underscore or a character that is not ASCII, and then any number of these, digits and hyphens; one with escapes is not read
 -- here. The five generic families are words in any letter case; inherit, initial, unset and default name no family.
-use Rattle.std.specs.Prelude.{ℕ, Bool, true, false, cond, not, ◌&&◌, ◌||◌, List, [], ◌∷◌, Some, None, codes, Option, ◌==◌}
+use Rattle.std.specs.Prelude.{ℕ, Bool, true, false, cond, not, ◌&&◌, List, [], ◌∷◌, Some, None, codes, Option, ◌==◌}
 use Rattle.std.specs.Str.{bytes_eq}
 use Rattle.svg.specs.Values.{Value, families, Family, serif, sans_serif, cursive, fantasy, monospace, named, ReadNumber}
 use Rattle.svg.specs.Texts.{lowers, starts_name, in_name, taken, left, skip_white, every, words, with_spaces, then, only_if, Taken}

@@ -1,9 +1,9 @@
 -- Lists of numbers and lengths. Between two stand white space and at most one comma (comma-wsp of SVG); both may be missing
 -- where the numbers part by themselves, as in 10-5 and 1.5.5. There is at least one number.
-use Rattle.std.specs.Prelude.{ℕ, Bool, true, false, cond, List, [], ◌∷◌, length, Some, None, Option, ◌==◌}
+use Rattle.std.specs.Prelude.{ℕ, cond, List, [], ◌∷◌, length, Some, None, Option, ◌==◌}
 use Rattle.svg.specs.Values.{Value, numbers, offsets, ReadNumber}
 use Rattle.svg.specs.Texts.{skip_white, then, only_if, Taken, repeated}
-use Rattle.svg.specs.Numbers.{Numeral, take_number, unit_in, after_unit, is_pixels, read_number}
+use Rattle.svg.specs.Numbers.{take_number, unit_in, after_unit, is_pixels, read_number}
 
 -- the text behind a separator; behind a comma something has to follow
 abbrev pub something : List ℕ → Option (List ℕ)

@@ -1,7 +1,7 @@
 -- Numbers and lengths: SVG 2 (number) and CSS Values (number, dimension, percentage). A number has an optional sign, digits,
 -- perhaps a point with digits behind it, and perhaps an exponent; its value is the nearest f32, of two as near the even one.
 -- Which numbers a property takes (as no negative width) is not tested here.
-use Rattle.std.specs.Prelude.{ℕ, ◌+◌, ◌*◌, ◌^◌, Bool, true, false, cond, not, ◌&&◌, ◌||◌, List, [], ◌∷◌, ◌++◌, length, Some, None, codes, Option, ◌==◌, Float}
+use Rattle.std.specs.Prelude.{ℕ, ◌+◌, ◌*◌, ◌^◌, Bool, false, cond, not, ◌&&◌, ◌||◌, List, [], ◌∷◌, length, Some, codes, Option, ◌==◌, Float}
 use Rattle.std.specs.Float.{binary32}
 use Rattle.std.specs.Float.Ieee.{round}
 use Rattle.std.specs.Str.{bytes_eq}

@@ -2,10 +2,10 @@
 -- and further pairs behind a moveto are linetos. Between numbers stand white space and at most one comma, or nothing where they
 -- part by themselves; the two flags of an arc are single digits. The first command is a moveto.
 -- The whole text is read or none of it: how far an erroneous path is drawn is not told here.
-use Rattle.std.specs.Prelude.{ℕ, zero, suc, Bool, true, false, cond, not, ◌&&◌, ◌||◌, List, [], ◌∷◌, length, Some, None, codes, Option, ◌==◌}
+use Rattle.std.specs.Prelude.{ℕ, zero, suc, false, cond, ◌||◌, List, [], ◌∷◌, length, Some, None, codes, Option, ◌==◌}
 use Rattle.svg.specs.Values.{Value, path, Command, ReadNumber}
 use Rattle.svg.specs.Texts.{lower, skip_white, then, or_else, only_if, Taken, put_before}
-use Rattle.svg.specs.Numbers.{Numeral, take_number, read_number}
+use Rattle.svg.specs.Numbers.{take_number, read_number}
 use Rattle.svg.specs.Lists.{after_comma, after_separator}
 use Rattle.svg.specs.Words.{from_table}
 

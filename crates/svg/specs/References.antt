@@ -1,8 +1,8 @@
 -- References: url(#id), url("#id") and url('#id') of CSS, several of them, and the links of xlink:href.
 -- A url(..) that leaves the document is not read here, and neither is one without quotes that has an escape.
-use Rattle.std.specs.Prelude.{ℕ, Bool, true, false, cond, not, ◌&&◌, ◌||◌, List, [], ◌∷◌, Some, None, codes, Option, ◌==◌, nat_le}
+use Rattle.std.specs.Prelude.{ℕ, Bool, true, false, cond, not, ◌||◌, List, [], ◌∷◌, Some, None, codes, Option, ◌==◌, nat_le}
 use Rattle.svg.specs.Values.{Value, keyword, none, reference, references, text, ReadNumber}
-use Rattle.svg.specs.Texts.{white, taken, left, skip_white, at_end, behind, behind_word, then, or_else, only_if, Taken}
+use Rattle.svg.specs.Texts.{taken, left, skip_white, at_end, behind, behind_word, then, or_else, only_if, Taken}
 use Rattle.svg.specs.Lists.{items_of, at_least_one, something}
 use Rattle.svg.specs.Words.{Table, from_table}
 use Rattle.svg.specs.Colors.{any_color}

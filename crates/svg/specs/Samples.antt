@@ -1,7 +1,7 @@
 -- Known texts: how each reads, and texts that are not read, for the corners of each grammar.
 use Rattle.std.specs.Prelude.{◌≡◌, ℕ, List, [], ◌∷◌, ◌++◌, codes, from_bits}
 use Rattle.std.specs.Float.{binary32}
-use Rattle.svg.specs.Values.{Value, none, number, dimension, weight, numbers, offsets, keyword, color, reference, references, matrix, families, path, text, inherit, initial, unset, unread, Family, serif, sans_serif, cursive, fantasy, monospace, named, Command, ReadNumber, said, over}
+use Rattle.svg.specs.Values.{Value, none, number, dimension, weight, numbers, offsets, keyword, color, reference, references, matrix, families, path, text, inherit, initial, unset, unread, serif, sans_serif, cursive, fantasy, monospace, named, Command, ReadNumber, said, over}
 use Rattle.svg.specs.Properties.{Syntax, any_text, a_number, dashes, offset_list, spacing, a_number_or, font_weight, css_words, exact_words, paint, a_color, func_iri, func_iri_list, iri, transform_list, family_list, path_data, themselves, size_words, order_words, shape_words, writing_words}
 use Rattle.svg.specs.Transforms.{identity}
 use Rattle.svg.specs.Styles.{declarations}

@@ -1,7 +1,7 @@
 -- Strings of CSS: characters between two quotes of one kind. A backslash with up to six hexadecimal digits, and one white space
 -- behind them, stands for the character of that number; with a line end it stands for nothing; with any other character for
 -- that character. A line end as it is breaks a string, and so does the end of the text.
-use Rattle.std.specs.Prelude.{ℕ, ◌+◌, ◌*◌, Bool, true, false, cond, not, ◌&&◌, ◌||◌, List, [], ◌∷◌, ◌++◌, Some, None, Option, ◌==◌, nat_lt}
+use Rattle.std.specs.Prelude.{ℕ, ◌+◌, ◌*◌, Bool, cond, not, ◌&&◌, ◌||◌, List, [], ◌∷◌, ◌++◌, Some, None, ◌==◌, nat_lt}
 use Rattle.std.proofs.Math.Utf8.{scalar}
 use Rattle.svg.specs.Texts.{white, Taken}
 use Rattle.svg.specs.Colors.{is_hex, hex_value}

@@ -2,7 +2,7 @@
 -- lower case, and values without white space at their ends. In strings and brackets, and behind a backslash, a semicolon parts
 -- nothing. A comment is a space, but in strings and brackets it is none. A declaration without a colon or a name is dropped.
 -- What `!important` does is not told here: it stays in the value, which then is not read.
-use Rattle.std.specs.Prelude.{ℕ, ◌+◌, ◌-◌, Bool, true, false, cond, not, ◌&&◌, ◌||◌, List, [], ◌∷◌, ◌++◌, ◌==◌}
+use Rattle.std.specs.Prelude.{ℕ, ◌+◌, ◌-◌, Bool, cond, not, ◌&&◌, List, [], ◌∷◌, ◌++◌, ◌==◌}
 use Rattle.svg.specs.Texts.{lowers, in_name, taken, left, is_empty, every, trimmed}
 use Rattle.svg.specs.Strings.{is_quote}
 

@@ -1,6 +1,6 @@
 -- How the text of a property or an attribute is read, by its syntax. What a syntax does not take is unread. Properties of CSS
 -- also take inherit, initial and unset.
-use Rattle.std.specs.Prelude.{ℕ, Bool, true, false, cond, not, ◌&&◌, List, [], ◌∷◌, Some, None, codes, Option, nat_lt}
+use Rattle.std.specs.Prelude.{ℕ, Bool, not, ◌&&◌, List, [], ◌∷◌, Some, None, codes, Option, nat_lt}
 use Rattle.drawing.specs.Tables.{nought}
 use Rattle.svg.specs.Values.{Value, number, weight, keyword, text, unread, ReadNumber, said}
 use Rattle.svg.specs.Properties.{Syntax, any_text, a_number, dashes, offset_list, spacing, a_number_or, font_weight, css_words, exact_words, paint, a_color, func_iri, func_iri_list, iri, transform_list, family_list, path_data}

@@ -1,7 +1,7 @@
 -- Transform lists. An empty list is the identity. Of the others only a single matrix(..), translate(..) or scale(..) is read,
 -- whose matrix has the very numbers of the text; rotate(..), skewX(..), skewY(..) and products of several transforms are
 -- valid too, but their matrices are not computed here, and they are not read.
-use Rattle.std.specs.Prelude.{ℕ, Bool, true, false, cond, List, [], ◌∷◌, Some, None, codes, Option, Float}
+use Rattle.std.specs.Prelude.{ℕ, List, [], ◌∷◌, Some, None, codes, Option}
 use Rattle.drawing.specs.Tables.{nought, one}
 use Rattle.svg.specs.Values.{Value, matrix, ReadNumber, said}
 use Rattle.svg.specs.Texts.{skip_white, at_end, behind, then, or_else, only_if, to_bracket}

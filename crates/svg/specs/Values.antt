@@ -1,6 +1,6 @@
 -- The values of SVG's properties and attributes, and when a value that was read agrees with one that was given.
 -- N is a number: as it was read, or as it was given.
-use Rattle.std.specs.Prelude.{◌≡◌, ℕ, Bool, true, false, ◌&&◌, List, [], ◌∷◌, Float}
+use Rattle.std.specs.Prelude.{◌≡◌, ℕ, Bool, true, ◌&&◌, List, [], ◌∷◌, Float}
 use Rattle.std.specs.Float.Ieee.{eq}
 use Rattle.digits.specs.Rounded.{Close}
 use Rattle.drawing.specs.Tables.{nought}

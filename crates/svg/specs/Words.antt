@@ -1,8 +1,8 @@
 -- Keywords. A keyword of CSS is read in any letter case (ASCII), with white space around it, and where it is several words,
 -- with any white space between them. A keyword of an attribute that is no property is read exactly as it is spelled.
-use Rattle.std.specs.Prelude.{ℕ, Bool, true, false, cond, List, [], ◌∷◌, Some, None, codes, Option}
+use Rattle.std.specs.Prelude.{ℕ, cond, List, [], ◌∷◌, Some, None, codes, Option}
 use Rattle.std.specs.Str.{bytes_eq}
-use Rattle.svg.specs.Values.{Value, none, number, weight, keyword, inherit, initial, unset, ReadNumber}
+use Rattle.svg.specs.Values.{Value, none, keyword, inherit, initial, unset, ReadNumber}
 use Rattle.svg.specs.Properties.{Words}
 use Rattle.svg.specs.Texts.{lowers, words, with_spaces}
 

@@ -1,12 +1,11 @@
-use Rattle.std.proofs.Common.{◌+◌, ◌-◌, ◌*◌, get_or, drop, sym, ap, ◌∙◌, arith, rules}
+use Rattle.std.proofs.Common.{◌+◌, ◌-◌, ◌*◌, get_or, drop, sym, ◌∙◌, arith, rules}
 use mathlib.Core.Bool.{false≢true}
-use Rattle.scripts.specs.Numbers.{value_after}
 use Rattle.scripts.proofs.Numerals.{digits_more, value_more, digits_bad, digits_all, value_all, value_grows}
 use Rattle.scripts.proofs.numbers.number.Goals as goal
 
-pub returns-then-not-is-digit : goal.returns-then-not-is-digit
-returns-then-not-is-digit c =
-    let bad = digits_bad c.args.word.now c.loop-byte.byte-index 0 c.loop-byte-test.true (sym c.if-not-is-digit.ensures) in
+pub returns-then-not-is_digit : goal.returns-then-not-is_digit
+returns-then-not-is_digit c =
+    let bad = digits_bad c.args.word.now c.loop-byte.byte-index 0 c.loop-byte-test.true (sym c.if-not-is_digit.ensures) in
     λ numeral. absurd (false≢true (sym bad ∙ c.loop-byte.invariant.2 ∙ numeral.1))
 
 pub returns-then-more-most : goal.returns-then-more-most
@@ -22,7 +21,7 @@ loop-byte-preserved c =
     let i = c.loop-byte.byte-index in (
       c.if-more-most.false,
       value_more word i 0 c.loop-byte.value c.loop-byte-test.true ∙ c.loop-byte.invariant.1,
-      digits_more word i 0 c.loop-byte-test.true (sym c.if-not-is-digit.ensures) ∙ c.loop-byte.invariant.2,
+      digits_more word i 0 c.loop-byte-test.true (sym c.if-not-is_digit.ensures) ∙ c.loop-byte.invariant.2,
     )
 
 pub returns : goal.returns

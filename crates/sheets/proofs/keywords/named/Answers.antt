@@ -4,10 +4,10 @@ use Rattle.sheets.proofs.keywords.named.Goals as goal
 
 pub loop-case-preserved : goal.loop-case-preserved
 loop-case-preserved g c =
-    unnamed_more g.K.Keyword.spelled g.K.Keyword.listed c.cases-case-items.result.now c.args.word.now c.word.result.now c.loop-case.case-index c.case-item.result c.is-same.result c.cases-case-items.ensures c.loop-case-test.true c.case-item.is c.word.ensures c.is-same.ensures c.if-is-same.false c.loop-case.invariant
+    unnamed_more g.K.Keyword.spelled g.K.Keyword.listed c.cases-case-items.result.now c.args.word.now c.word.result.now c.loop-case.case-index c.case-item.result c.is_same.result c.cases-case-items.ensures c.loop-case-test.true c.case-item.is c.word.ensures c.is_same.ensures c.if-is_same.false c.loop-case.invariant
 
-pub returns-then-is-same : goal.returns-then-is-same
-returns-then-is-same g c = sym c.word.ensures ∙ c.is-same.ensures.0 c.if-is-same.true
+pub returns-then-is_same : goal.returns-then-is_same
+returns-then-is_same g c = sym c.word.ensures ∙ c.is_same.ensures.0 c.if-is_same.true
 
 pub returns : goal.returns
 returns g c =
