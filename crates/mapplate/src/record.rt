@@ -1,11 +1,13 @@
 //! The record of a run, as bytes.
 
 ghost use Rattle.std.specs.Prelude.{◌≡◌, ◌<◌, ◌++◌, length, OnOk};
+ghost use Rattle.mapplate.specs.Record.{opened, shown_attribute, shown_node, refusal};
 
 use crate::failures::Failure;
 use crate::numbers::hex_digit;
 use crate::quoting::push_quoted;
 use drawing::faults::Fault;
+use drawing::names::AId;
 use plates::elements::Element;
 use std::io::Write;
 use stores::Store;
@@ -19,7 +21,9 @@ const GROUP: usize = 9;
 pub const FILL: u8 = 0xA5;
 
 /// `open NAME` with the quoted id, if any.
-pub fn put_open(out: &mut Vec<u8>, element: Element, id: &[u8]) -> Result<(), Failure> {
+pub fn put_open(out: &mut Vec<u8>, element: Element, id: &[u8]) -> Result<(), Failure>
+    ensures { OnOk result (out.new.items ≡ out.old.items ++ opened element id.now) }
+{
     out.extend_from_slice(b"open ")?;
     out.extend_from_slice(element.name())?;
     if !id.is_empty() {
@@ -29,18 +33,37 @@ pub fn put_open(out: &mut Vec<u8>, element: Element, id: &[u8]) -> Result<(), Fa
     Ok(())
 }
 
+fn put_attribute(out: &mut Vec<u8>, attribute: Option<AId>) -> Result<(), Failure>
+    ensures { OnOk result (out.new.items ≡ out.old.items ++ shown_attribute attribute) }
+{
+    match attribute {
+        None => Ok(()),
+        Some(name) => {
+            out.extend_from_slice(b", attribute ")?;
+            out.extend_from_slice(name.name())?;
+            Ok(())
+        }
+    }
+}
+
+fn put_node(out: &mut Vec<u8>, node: Option<usize>) -> Result<(), Failure>
+    ensures { OnOk result (out.new.items ≡ out.old.items ++ shown_node node) }
+{
+    if let Some(node) = node {
+        write!(out, ", node {node}")?;
+    }
+    Ok(())
+}
+
 /// A fault's number and word, and its attribute and node where there are such.
-pub fn put_fault(out: &mut Vec<u8>, fault: Fault) -> Result<(), Failure> {
+pub fn put_fault(out: &mut Vec<u8>, fault: Fault) -> Result<(), Failure>
+    ensures { OnOk result (out.new.items ≡ out.old.items ++ refusal fault) }
+{
     let number = fault.number();
     write!(out, ": refused, {number} ")?;
     out.extend_from_slice(fault.word())?;
-    if let Some(attribute) = fault.attribute() {
-        out.extend_from_slice(b", attribute ")?;
-        out.extend_from_slice(attribute.name())?;
-    }
-    if let Some(node) = fault.node() {
-        write!(out, ", node {node}")?;
-    }
+    put_attribute(out, fault.attribute())?;
+    put_node(out, fault.node())?;
     out.extend_from_slice(b"\n")?;
     Ok(())
 }

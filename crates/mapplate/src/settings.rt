@@ -1,5 +1,8 @@
 //! The options of the calls that follow an `options` statement.
 
+ghost use Rattle.std.specs.Prelude.{◌≡◌, [], false, MatchOption};
+ghost use Rattle.drawing.specs.Options.{prefix_of};
+
 use drawing::options::WriteOptions;
 
 #[derive(Drop)]
@@ -13,7 +16,9 @@ pub struct Settings {
 
 impl Settings {
     /// The defaults of a call.
-    pub fn new() -> Settings {
+    pub fn new() -> Settings
+        ensures { result ≡ record { prefix = None; preserve_text = false; coordinates = 8; transforms = 8; single_quote = false } }
+    {
         let defaults = WriteOptions::new();
         Settings {
             prefix: None,
@@ -24,7 +29,14 @@ impl Settings {
         }
     }
 
-    pub fn write_options(&self) -> WriteOptions<'_> {
+    /// The same options, as a call takes them.
+    pub fn write_options(&self) -> WriteOptions<'_>
+        ensures prefix { MatchOption self.now.prefix (prefix_of result ≡ []) (λ p. prefix_of result ≡ p.items) }
+        ensures preserve_text { result.preserve_text ≡ self.now.preserve_text }
+        ensures coordinates { result.coordinates_precision ≡ self.now.coordinates }
+        ensures transforms { result.transforms_precision ≡ self.now.transforms }
+        ensures quote { result.use_single_quote ≡ self.now.single_quote }
+    {
         let id_prefix = match &self.prefix {
             Some(prefix) => Some(prefix.as_slice()),
             None => None,

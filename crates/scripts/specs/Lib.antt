@@ -1,3 +1,4 @@
+pub mod Failures
+pub mod Floats
 pub mod Numbers
 pub mod Quoting
-pub mod Floats

@@ -1,5 +1,8 @@
 //! Why a script cannot be read: a line says something else than was expected, or memory runs out.
 
+ghost use Rattle.std.specs.Prelude.{◌≡◌};
+ghost use Rattle.scripts.specs.Failures.{TellsWord};
+
 use crate::quoting::push_quoted;
 use std::alloc::{AllocError, AllocFailed, Global};
 use std::fmt;
@@ -108,7 +111,9 @@ pub enum Failure {
 }
 
 /// The failure of a line at a word.
-pub fn at_word(heap: Global, line: usize, expected: Expected, word: &[u8]) -> Failure {
+pub fn at_word(heap: Global, line: usize, expected: Expected, word: &[u8]) -> Failure
+    ensures { TellsWord line expected word.now result }
+{
     let mut shown = Vec::new(heap);
     match push_quoted(&mut shown, word) {
         Ok(()) => Failure::Script(ScriptError {
@@ -121,7 +126,9 @@ pub fn at_word(heap: Global, line: usize, expected: Expected, word: &[u8]) -> Fa
 }
 
 /// The failure of a line at its end.
-pub fn at_line_end(line: usize, expected: Expected) -> Failure {
+pub fn at_line_end(line: usize, expected: Expected) -> Failure
+    ensures { result ≡ Failure.Script (record { line = line; expected = expected; found = Found.LineEnd }) }
+{
     Failure::Script(ScriptError {
         line,
         expected,
@@ -130,7 +137,9 @@ pub fn at_line_end(line: usize, expected: Expected) -> Failure {
 }
 
 /// The failure of a script at its end.
-pub fn at_script_end(line: usize, expected: Expected) -> Failure {
+pub fn at_script_end(line: usize, expected: Expected) -> Failure
+    ensures { result ≡ Failure.Script (record { line = line; expected = expected; found = Found.ScriptEnd }) }
+{
     Failure::Script(ScriptError {
         line,
         expected,
