@@ -4,22 +4,16 @@ ghost use Rattle.checks.specs.Sound.{DrawStands, GradientStands};
 ghost use Rattle.checks.specs.BareNames.{BareNamesStand};
 
 /// A node is accepted exactly when the drawing is sound there; and a refusal names the first entry that breaks its rule.
-pub fn draw_check_stands() -> u8
+pub fn draw_check_stands()
     ensures { DrawStands }
-{
-    0
-}
+{}
 
 /// The same for a gradient row.
-pub fn gradient_check_stands() -> u8
+pub fn gradient_check_stands()
     ensures { GradientStands }
-{
-    0
-}
+{}
 
 /// A family's name is bare exactly when it is identifiers joined by single spaces, and no reserved word.
-pub fn bare_names_stand() -> u8
+pub fn bare_names_stand()
     ensures { BareNamesStand }
-{
-    0
-}
+{}

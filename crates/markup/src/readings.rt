@@ -7,61 +7,45 @@ ghost use Rattle.markup.specs.Samples.{Samples};
 ghost use Rattle.markup.specs.Growth.{Growth, GrowthOfNames, ClosingMarks, LegalSteps, EncodedSoFar, ReadsBackUnfinished};
 
 /// No text means two things by XML 1.0.
-pub fn one_meaning_stands() -> u8
+pub fn one_meaning_stands()
     ensures { OneMeaning }
-{
-    0
-}
+{}
 
 /// Every well-formed forest, rendered, reads back by XML 1.0, and as nothing but itself.
-pub fn reads_back_stands() -> u8
+pub fn reads_back_stands()
     ensures { ReadsBack }
-{
-    0
-}
+{}
 
 /// Writers escape the bytes of a text; that gives the bytes of the text escaped.
-pub fn escapes_of_bytes_stand() -> u8
+pub fn escapes_of_bytes_stand()
     ensures escapes { EscapesOfBytes }
     ensures decoded { FromBytes }
-{
-    0
-}
+{}
 
 /// While elements are open, each step of writing appends its bytes to those before.
-pub fn growth_stands() -> u8
+pub fn growth_stands()
     ensures bytes { Growth }
     ensures names { GrowthOfNames }
     ensures legal { LegalSteps }
     ensures encoded { EncodedSoFar }
-{
-    0
-}
+{}
 
 /// The bytes so far and the closing marks are the rendering of the forest with every open element ended.
-pub fn closing_marks_stand() -> u8
+pub fn closing_marks_stand()
     ensures { ClosingMarks }
-{
-    0
-}
+{}
 
 /// So they read back as that forest, and as nothing else.
-pub fn unfinished_reads_back_stands() -> u8
+pub fn unfinished_reads_back_stands()
     ensures { ReadsBackUnfinished }
-{
-    0
-}
+{}
 
 /// The tests of names, attributes and forests that compute say exactly when these are well-formed.
-pub fn checks_stand() -> u8
+pub fn checks_stand()
     ensures { Checks }
-{
-    0
-}
+{}
 
 /// Known texts read as they should, and others have no reading.
-pub fn samples_stand() -> u8
+pub fn samples_stand()
     ensures { Samples }
-{
-    0
-}
+{}

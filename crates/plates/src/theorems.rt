@@ -5,15 +5,11 @@ ghost use Rattle.plates.specs.Promise.{ClosesAfterAll};
 
 /// After any calls on a new plate, close succeeds exactly as many times running as elements are open, and adds exactly the
 /// closing marks: it never lacks room.
-pub fn closes_after_all() -> u8
+pub fn closes_after_all()
     ensures { ClosesAfterAll }
-{
-    0
-}
+{}
 
 /// Known texts and limits.
-pub fn known_texts() -> u8
+pub fn known_texts()
     ensures { Known }
-{
-    0
-}
+{}
