@@ -25,7 +25,7 @@ at_place s w p =
 
 found_decimals : {x : Float} {s : Bool} {M j n : ℕ} (i : ℕ) → Found x s M j n i → (w p : ℕ) → nearest_float s w p ≡ x → i - 12 ≤ p
 found_decimals {x} {s} {M} {j} i f w p e = elim (cases_lt (12 + p) i) [
-  | inl h ↦ absurd (none_before x s M j (12 + p) w f.parts (f.before (12 + p) h) (at_place s w p ∙ e))
+  | inl h ↦ absurd (none_before x s M j (12 + p) w f.parts (f.first.before (12 + p) h) (at_place s w p ∙ e))
   | inr h ↦ omega arith
 ]
 

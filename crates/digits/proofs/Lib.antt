@@ -20,3 +20,4 @@ pub mod Steps
 pub mod RoundedText
 pub mod Domains
 pub mod Reading
+pub mod Lengths

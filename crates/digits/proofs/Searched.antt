@@ -10,17 +10,14 @@ use Rattle.std.proofs.lemmas.Bool.Decides.{same_from_decides}
 use Rattle.std.specs.Float.{is_sign_negative}
 use Rattle.digits.specs.Magnitudes.{grains}
 use Rattle.digits.specs.Bare.{tens_above, tens_below, reads_as, floor_at, upper_half, best_at, first_place, coarsest}
-use Rattle.digits.specs.Scaled.{Parts, within, gap, step, units_at, chosen}
+use Rattle.digits.specs.Scaled.{Parts, within, gap, step, units_at, chosen, FirstUnits}
 use Rattle.digits.proofs.PlaceUnits.{common_power, gap_scaled, within_reads, reads_within, floor_multiple, step_pos}
 use Rattle.digits.proofs.Values.{grains_of, sign_of}
 
 -- the first place i at which n units read back as x, in the code's whole numbers
 pub record Found (x : Float) (s : Bool) (M j n i : ℕ) : Type 0 where
   pub parts : Parts x s M j
-  pub units : n ≡ units_at M (gap j i) (step j i)
-  pub before : (k : ℕ) → k < i → units_at M (gap j k) (step j k) ≡ 0
-  pub last : i ≤ 28
-  pub none : n ≡ 0 → i ≡ 28
+  pub first : FirstUnits M j n i
 
 -- ---- equal tests
 pub same_float : (x y : Float) → T (fits binary32 x) → T (fits binary32 y) → eqb (to_bits binary32 x) (to_bits binary32 y) ≡ true → x ≡ y
@@ -113,19 +110,21 @@ definition_found x s M j p =
     let f : First x 28 (coarsest x) = first_found 28 x 0 (best_at x 0) refl (λ k h. absurd (omega arith)) in
     record {
       parts = p;
-      units = best_is x s M j (coarsest x) p;
-      before = λ k h. sym (best_is x s M j k p) ∙ f.before k h;
-      last = f.last;
-      none = f.none;
+      first = record {
+        units = best_is x s M j (coarsest x) p;
+        before = λ k h. sym (best_is x s M j k p) ∙ f.before k h;
+        last = f.last;
+        none = f.none;
+      };
     }
 
 -- two searches that found something found the same
 pub same_place : (x : Float) (s : Bool) (M j n i n' i' : ℕ) → Found x s M j n i → Found x s M j n' i' → i ≡ i'
 same_place x s M j n i n' i' f g = elim (Rattle.std.proofs.lemmas.Bool.cases_order i i') [
   | inl e ↦ e
-  | inr (inl l) ↦ absurd (let z = f.none (f.units ∙ g.before i l) in let y = g.last in omega arith)
-  | inr (inr l) ↦ absurd (let z = g.none (g.units ∙ f.before i' l) in let y = f.last in omega arith)
+  | inr (inl l) ↦ absurd (let z = f.first.none (f.first.units ∙ g.first.before i l) in let y = g.first.last in omega arith)
+  | inr (inr l) ↦ absurd (let z = g.first.none (g.first.units ∙ f.first.before i' l) in let y = f.first.last in omega arith)
 ]
 
 pub same_units : (x : Float) (s : Bool) (M j n i n' i' : ℕ) → Found x s M j n i → Found x s M j n' i' → n ≡ n'
-same_units x s M j n i n' i' f g = f.units ∙ ap (λ (k : ℕ). units_at M (gap j k) (step j k)) (same_place x s M j n i n' i' f g) ∙ sym g.units
+same_units x s M j n i n' i' f g = f.first.units ∙ ap (λ (k : ℕ). units_at M (gap j k) (step j k)) (same_place x s M j n i n' i' f g) ∙ sym g.first.units

@@ -20,13 +20,13 @@ use Rattle.digits.proofs.Values.{sign_of}
 
 -- ---- what was found
 pub found_some : {x : Float} {s : Bool} {M j n i : ℕ} → Found x s M j n i → 0 < n
-found_some {x} {s} {M} {j} {n} {i} f = result_some x s M j n i f.parts f.units f.none
+found_some {x} {s} {M} {j} {n} {i} f = result_some x s M j n i f.parts f.first.units f.first.none
 
 pub found_reads : {x : Float} {s : Bool} {M j n i : ℕ} → Found x s M j n i → round binary32 s (n * tens_above i) (tens_below i) ≡ x
-found_reads {x} {s} {M} {j} {n} {i} f = result_reads x s M j n i f.parts f.units f.none
+found_reads {x} {s} {M} {j} {n} {i} f = result_reads x s M j n i f.parts f.first.units f.first.none
 
 pub found_small : {x : Float} {s : Bool} {M j n i : ℕ} → Found x s M j n i → n < 10 ^ 9
-found_small {x} {s} {M} {j} {n} {i} f = small_units x s M j n i f.parts f.units f.none f.before
+found_small {x} {s} {M} {j} {n} {i} f = small_units x s M j n i f.parts f.first.units f.first.none f.first.before
 
 -- at the places of whole numbers, nothing that reads back reaches 2 ^ 41
 whole_small : (x : Float) (s : Bool) (M j w i : ℕ) → Parts x s M j → i ≤ 12 → round binary32 s (w * tens_above i) (tens_below i) ≡ x → w * tens_above i < 2 ^ 41
@@ -68,7 +68,7 @@ ends_low {x} {s} {M} {j} {n} i f z =
     ap (λ (t : ℕ). round binary32 s (w * 10 ^ t * tens_above (suc i)) (tens_below (suc i))) k
     ∙ ap (λ (t : ℕ). round binary32 s (t * tens_above (suc i)) (tens_below (suc i))) e
     ∙ found_reads f in
-    none_before x s M j i w f.parts (f.before i h) (sym (finer s w i (suc i) l) ∙ b)
+    none_before x s M j i w f.parts (f.first.before i h) (sym (finer s w i (suc i) l) ∙ b)
 
 pub found_lowest : {x : Float} {s : Bool} {M j n : ℕ} (i : ℕ) → Found x s M j n i → Lowest (n * tens_above i) (i - 12)
 found_lowest zero f h z = absurd (omega arith)
@@ -126,7 +126,7 @@ found_fewest {x} {s} {M} {j} {n} {i} f n' k' t r g =
     let m = g.0 in
     let e = g.1 in
     let q = placed x s M j n' k' m e f.parts g.3 r in
-    (n, 12 - i, fewest x s M j n i f.parts f.units f.none f.before m (12 + k' - e) t g.2 q.1, refl)
+    (n, 12 - i, fewest x s M j n i f.parts f.first.units f.first.none f.first.before m (12 + k' - e) t g.2 q.1, refl)
 
 -- how many digits a number has, less one
 digit_count : (b n : ℕ) → 0 < n → n < 10 ^ b → (t : ℕ) × (10 ^ t ≤ n) × (n < 10 ^ suc t)
@@ -161,7 +161,7 @@ finer_none {x} {s} {M} {j} {n} i f zero m i' lo hi h r =
     (tests_inside M (m * v) u (M * u) (reads_within x s M j m i' p r))
     (tests_inside M (n * 10 ^ (i' - i) * v) u (M * u) (reads_within x s M j (n * 10 ^ (i' - i)) i' p own))
 finer_none {x} {s} {M} {j} {n} zero f (suc t) m i' lo hi h r =
-    let l : n < 10 = first x s M j n f.parts f.units (found_some f) in
+    let l : n < 10 = first x s M j n f.parts f.first.units (found_some f) in
     let e = pow-suc 10 t in
     let q = ten_pos t in
     omega arith
@@ -180,7 +180,7 @@ finer_none {x} {s} {M} {j} {n} (suc i) f (suc t) m i' lo hi h r =
     let m' : m < 10 ^ suc t * 10 = subst (λ (z : ℕ). m < z) (pow-suc 10 (suc t)) hi in
     let mid : round binary32 s (10 ^ t * 10 ^ (i' - i) * tens_above i') (tens_below i') ≡ x =
     between_reads x s M j i' m (10 ^ t * 10 ^ (i' - i)) (n * 10 ^ (i' - suc i)) p (omega arith) (omega arith) r own in
-    none_before x s M j i (10 ^ t) p (f.before i (omega arith)) (sym (finer s (10 ^ t) i i' c) ∙ mid)
+    none_before x s M j i (10 ^ t) p (f.first.before i (omega arith)) (sym (finer s (10 ^ t) i i' c) ∙ mid)
   where
     sums : (t a b : ℕ) → b ≡ suc a → suc t + a ≡ t + b
     sums t a b e = omega arith
@@ -234,7 +234,7 @@ rival {x} {s} {M} {j} {n} {i} f n' k' r few =
         within_there = reads_within x s M j m i f.parts (subst (λ (z : ℕ). round binary32 s (m * tens_above z) (tens_below z) ≡ x) o q.1);
         same = subst (λ (z : ℕ). n' * tens_below z ≡ m * tens_above z * 10 ^ k') o c;
       }
-      | inr (inl l) ↦ absurd (none_before x s M j i' m f.parts (f.before i' l) q.1)
+      | inr (inl l) ↦ absurd (none_before x s M j i' m f.parts (f.first.before i' l) q.1)
       | inr (inr l) ↦ absurd (finer_none i f t m i' d.1 g.2 l q.1)
     ]
 
@@ -244,7 +244,7 @@ found_nearest {x} {s} {M} {j} {n} {i} f n' k' q =
     let p = f.parts in
     let w = q.there in
     let G = 2 ^ common_power j in
-    let b = nearest M (gap j i) (step j i) n w (gap_pos j i) (step_pos j i) f.units (found_some f) q.within_there in
+    let b = nearest M (gap j i) (step j i) n w (gap_pos j i) (step_pos j i) f.first.units (found_some f) q.within_there in
     let l : apart (n * step j i) (M * gap j i) * G * 10 ^ k' ≤ apart (w * step j i) (M * gap j i) * G * 10 ^ k' = mul-le-mul_right (10 ^ k') (mul-le-mul_right G b.0) in
     let e1 : away x (n * tens_above i) (i - 12) * 10 ^ k' ≡ apart (n * step j i) (M * gap j i) * G * 10 ^ k' = ap (λ (z : ℕ). z * 10 ^ k') (place_away x s M j n i p) in
     let e2 : away x n' k' * 10 ^ (i - 12) ≡ apart (w * step j i) (M * gap j i) * G * 10 ^ k' = other_away x n' k' w i q.same ∙ ap (λ (z : ℕ). z * 10 ^ k') (place_away x s M j w i p) in
@@ -256,7 +256,7 @@ found_larger {x} {s} {M} {j} {n} {i} f n' k' q e =
     let p = f.parts in
     let w = q.there in
     let G = 2 ^ common_power j in
-    let b = nearest M (gap j i) (step j i) n w (gap_pos j i) (step_pos j i) f.units (found_some f) q.within_there in
+    let b = nearest M (gap j i) (step j i) n w (gap_pos j i) (step_pos j i) f.first.units (found_some f) q.within_there in
     let e1 : away x (n * tens_above i) (i - 12) * 10 ^ k' ≡ apart (n * step j i) (M * gap j i) * G * 10 ^ k' = ap (λ (z : ℕ). z * 10 ^ k') (place_away x s M j n i p) in
     let e2 : away x n' k' * 10 ^ (i - 12) ≡ apart (w * step j i) (M * gap j i) * G * 10 ^ k' = other_away x n' k' w i q.same ∙ ap (λ (z : ℕ). z * 10 ^ k') (place_away x s M j w i p) in
     let h : apart (n * step j i) (M * gap j i) ≡ apart (w * step j i) (M * gap j i) =

@@ -1,5 +1,5 @@
 -- A float taken apart, and the whole numbers in which the places of its decimals are searched.
-use Rattle.std.specs.Prelude.{ℕ, ◌+◌, ◌-◌, ◌*◌, ◌/◌, ◌%◌, ◌^◌, ◌<◌, ◌≤◌, Bool, cond, not, ◌&&◌, ◌||◌, T, ◌==◌, nat_le, nat_lt, Float}
+use Rattle.std.specs.Prelude.{◌≡◌, ℕ, ◌+◌, ◌-◌, ◌*◌, ◌/◌, ◌%◌, ◌^◌, ◌<◌, ◌≤◌, Bool, cond, not, ◌&&◌, ◌||◌, T, ◌==◌, nat_le, nat_lt, Float}
 use Rattle.std.specs.Float.{binary32}
 use Rattle.std.specs.Float.Ieee.{fits}
 use Rattle.std.specs.Float.Ieee.Exact.{HasValue}
@@ -35,3 +35,11 @@ chosen low high half n = cond (high && (half || not low)) (n + 1) (cond low n 0)
 -- the units of a place with the step v that read back as the float M * u, the nearest ones, and 0 if there are none
 abbrev pub units_at : ℕ → ℕ → ℕ → ℕ
 units_at M u v = chosen (within M (M * u - M * u % v) u) (within M (M * u - M * u % v + v) u) (nat_le v (2 * (M * u % v))) (M * u / v)
+
+-- The search of the places from 0 on ends at the place i with n units: they read back as the float M * 2 ^ j, and at no place
+-- before i do any. The last place is 28.
+pub record FirstUnits (M j n i : ℕ) : Type 0 where
+  pub units : n ≡ units_at M (gap j i) (step j i)
+  pub before : (k : ℕ) → k < i → units_at M (gap j k) (step j k) ≡ 0
+  pub last : i ≤ 28
+  pub none : n ≡ 0 → i ≡ 28

@@ -7,20 +7,23 @@ ghost use Rattle.digits.specs.Numerals.{text_of};
 
 const CAPACITY: usize = 32;
 
+/// The text of one number.
+// Kept: C lends one of these, whatever is in it, so it is bytes with a length beside and no invariant (the C interface).
 #[derive(Clone, Copy)]
 #[repr(C)]
 pub struct Numeral {
-    bytes: [u8; 32],
+    bytes: [u8; CAPACITY],
     length: usize,
 }
 
+#[tactic(auto, unfolding(crate::specs::Numerals::text_of))]
 impl Numeral {
     // The empty text, to write into.
     pub(crate) fn empty() -> Numeral
         ensures { text_of result ≡ [] }
     {
         Numeral {
-            bytes: [0; 32],
+            bytes: [0; CAPACITY],
             length: 0,
         }
     }
@@ -35,7 +38,7 @@ impl Numeral {
         self.length += 1;
     }
 
-    // The text.
+    /// The text.
     pub fn text(&self) -> &[u8]
         ensures { result.now ≡ text_of self.now }
     {

@@ -1,6 +1,6 @@
 // A float taken apart: its sign, its 24 binary digits, and the power of two that they stand at.
 ghost use Rattle.std.specs.Float.Ieee as Ieee;
-ghost use Rattle.std.specs.Prelude.{◌≡◌, true, false};
+ghost use Rattle.std.specs.Prelude.{◌≡◌, ◌^◌, ◌<◌, ◌≤◌, true, false};
 ghost use Rattle.digits.specs.Magnitudes.{least, most};
 ghost use Rattle.digits.specs.Scaled.{Parts};
 ghost use Rattle.std.specs.Float.{float_with_sign};
@@ -11,6 +11,9 @@ pub(crate) struct Scaled {
     pub negative: bool,
     pub significand: u32,
     pub power: u32,
+    pub ghost short: { significand < 2 ^ 24 },
+    pub ghost above: { 99 ≤ power },
+    pub ghost below: { power ≤ 166 },
 }
 
 // The fields of the bits. All 24 digits are there, since the least float shown bare is well above the subnormal ones.

@@ -11,12 +11,11 @@ ghost use Rattle.digits.specs.Outcomes.{bare_outcome, rounded_outcome, shown};
 ghost use Rattle.digits.specs.Rounded.{rounded as rounded-at, whole_text};
 
 use crate::numerals::Numeral;
-use crate::places::search_places;
-use crate::rounding::{counts_as_whole, rounded_value, whole_part_of};
+use crate::rounding::{Bounded, Precision};
 use crate::scaled::take_apart;
-use crate::spelling::spelled;
+use crate::spelling::Decimal;
 
-// Why a number has no text.
+/// Why a number has no text.
 #[derive(Clone, Copy, PartialEq, Eq, Debug)]
 pub enum NumberFault {
     OutsideDomain,
@@ -29,10 +28,7 @@ const MOST: f32 = 1099511627776.0;
 // The f32 nearest to 10 ^ -8, the smallest magnitude above zero that is shown bare. Its bits are 322BCC77.
 const LEAST: f32 = 1e-8;
 
-// The highest precision.
-const MOST_PRECISE: u8 = 8;
-
-// Whether a float is shown bare: a zero, or of a magnitude from `LEAST` to `MOST`. No NaN is.
+/// Whether a float is shown bare: a zero, or of a magnitude from `LEAST` to `MOST`. No NaN is.
 pub fn is_shown_bare(x: f32) -> bool
     ensures { result ≡ bare_domain x }
 {
@@ -40,7 +36,7 @@ pub fn is_shown_bare(x: f32) -> bool
     size <= MOST && (x == 0.0 || LEAST <= size)
 }
 
-// Whether a float is shown rounded: of a magnitude up to `MOST`. No NaN is.
+/// Whether a float is shown rounded: of a magnitude up to `MOST`. No NaN is.
 pub fn is_shown_rounded(x: f32) -> bool
     ensures { result ≡ rounded_domain x }
 {
@@ -53,15 +49,24 @@ fn shortest(x: f32) -> Numeral
     ensures { text_of result ≡ bare-text x }
 {
     if x == 0.0 {
-        return spelled(x.is_sign_negative(), 0, 0);
+        return Decimal {
+            negative: x.is_sign_negative(),
+            units: 0,
+            places: 0,
+        }
+        .spelled();
     }
     let parts = take_apart(x);
-    let (units, place) = search_places(parts.significand, parts.power);
-    let whole_units = units as u64 * 10u64.pow(12u32.saturating_sub(place));
-    spelled(parts.negative, whole_units, place.saturating_sub(12))
+    let (units, place) = parts.search_places();
+    Decimal {
+        negative: parts.negative,
+        units: units as u64 * 10u64.pow(12u32.saturating_sub(place)),
+        places: place.saturating_sub(12),
+    }
+    .spelled()
 }
 
-// A float as a bare number.
+/// A float as a bare number.
 pub fn bare(x: f32) -> Result<Numeral, NumberFault>
     ensures { shown result ≡ bare_outcome x }
 {
@@ -72,37 +77,38 @@ pub fn bare(x: f32) -> Result<Numeral, NumberFault>
     }
 }
 
-// The text of a number that counts as whole: its whole part in full, with a minus unless it is zero.
-fn whole_text_of(x: f32) -> Numeral
-    requires { rounded_domain x ≡ true }
-    ensures { text_of result ≡ whole_text x }
-{
-    let whole = whole_part_of(x);
-    spelled(x.is_sign_negative() && whole != 0, whole, 0)
-}
+impl Bounded {
+    // Its text where it counts as whole: the whole part in full, with a minus unless it is zero.
+    fn whole_text(self) -> Numeral
+        ensures { text_of result ≡ whole_text self.value }
+    {
+        let whole = self.whole_part();
+        Decimal {
+            negative: self.value.is_sign_negative() && whole != 0,
+            units: whole,
+            places: 0,
+        }
+        .spelled()
+    }
 
-// The rounded text of a float of the domain.
-fn rounded_text(x: f32, precision: u8) -> Numeral
-    requires number { rounded_domain x ≡ true }
-    requires setting { precision ≤ 8 }
-    ensures { text_of result ≡ rounded-at precision x }
-{
-    if counts_as_whole(x) {
-        whole_text_of(x)
-    } else {
-        shortest(rounded_value(x, precision))
+    // Its rounded text.
+    #[tactic(auto, using(crate::proofs::RoundedText::rounded_whole, crate::proofs::RoundedText::rounded_other))]
+    fn rounded_text(self, precision: Precision) -> Numeral
+        ensures { text_of result ≡ rounded-at precision.decimals self.value }
+    {
+        if self.counts_as_whole() {
+            self.whole_text()
+        } else {
+            shortest(self.rounded_value(precision))
+        }
     }
 }
 
-// A float as a rounded number, with at most `precision` decimals.
+/// A float as a rounded number, with at most `precision` decimals.
 pub fn rounded(x: f32, precision: u8) -> Result<Numeral, NumberFault>
     ensures { shown result ≡ rounded_outcome precision x }
 {
-    if precision > MOST_PRECISE {
-        return Err(NumberFault::PrecisionAboveEight);
-    }
-    if !is_shown_rounded(x) {
-        return Err(NumberFault::OutsideDomain);
-    }
-    Ok(rounded_text(x, precision))
+    let precision = Precision::try_from(precision)?;
+    let number = Bounded::try_from(x)?;
+    Ok(number.rounded_text(precision))
 }

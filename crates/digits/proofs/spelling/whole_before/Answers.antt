@@ -1,4 +1,4 @@
-use Rattle.std.proofs.Common.{◌≡◌, ℕ, ◌+◌, ◌/◌, ◌%◌, ◌^◌, ◌<◌, ◌≤◌, List, [], ◌∷◌, ◌++◌, length, decimal, sym, ap, ◌∙◌, append_assoc, arith, length-append}
+use Rattle.std.proofs.Common.{◌≡◌, ℕ, ◌^◌, ◌<◌, ◌≤◌, List, [], ◌∷◌, ◌++◌, length, decimal, append_assoc, sym, ap, ◌∙◌, ◌+◌, ◌%◌, ◌/◌, arith, length-append}
 use Rattle.std.proofs.lemmas.Fmt.{decimal_step, decimal_digit, decimal_nonempty}
 use Rattle.digits.specs.Numerals.{text_of}
 use Rattle.digits.proofs.spelling.whole_before.Goals as goal
@@ -12,27 +12,22 @@ room r n t o e small h =
     let s = decimal_nonempty r small in
     omega arith
 
-pub before-requires : goal.before-requires
-before-requires c = room c.loop-rest.rest c.args.number (text_of c.loop-rest.numeral) (text_of c.args.numeral.now) c.loop-rest.invariant.0 (omega arith) c.requires
+pub digit_before-rest-requires : goal.digit_before-rest-requires
+digit_before-rest-requires c = room _ _ _ _ c.loop-rest.invariant.text (omega arith) c.requires
 
 pub loop-rest-preserved : goal.loop-rest-preserved
 loop-rest-preserved c =
-    let r = c.loop-rest.rest in
-    let t = text_of c.loop-rest.numeral in
-    let big : 10 ≤ r = omega arith in
-    let small : r < 2 ^ 64 = omega arith in (
-      ap (λ (z : List ℕ). decimal (r / 10) ++ z) c.before-in-loop-rest.ensures
-          ∙ sym (append_assoc (decimal (r / 10)) ((48 + r % 10) ∷ []) t)
-          ∙ ap (λ (z : List ℕ). z ++ t) (sym (decimal_step r big small))
-          ∙ c.loop-rest.invariant.0,
-      omega arith,
-    )
+    let s = decimal_step c.loop-rest.rest (omega arith) (omega arith) in
+    record {
+      text = rw (c.digit_before-rest.ensures.rest, c.digit_before-rest.ensures.text) (sym (append_assoc _ (_ ∷ []) _) ∙ rw (← s) c.loop-rest.invariant.text);
+      smaller = omega arith;
+    }
 
-pub before-requires-2 : goal.before-requires-2
-before-requires-2 c = room c.loop-rest.rest c.args.number (text_of c.loop-rest.numeral) (text_of c.args.numeral.now) c.loop-rest.invariant.0 (omega arith) c.requires
+pub digit_before-requires : goal.digit_before-requires
+digit_before-requires c = room _ _ _ _ c.loop-rest.invariant.text (omega arith) c.requires
 
 pub returns : goal.returns
 returns c =
-    let r = c.loop-rest.rest in
-    let small : r < 10 = omega arith in
-    c.before-2.ensures ∙ ap (λ (z : List ℕ). z ++ text_of c.loop-rest.numeral) (sym (decimal_digit r small)) ∙ c.loop-rest.invariant.0
+    let d = decimal_digit c.loop-rest.rest (omega arith) in
+    let m : c.loop-rest.rest % 10 ≡ c.loop-rest.rest = omega arith in
+    rw (c.digit_before.ensures.text, m) (rw d at c.loop-rest.invariant.text)

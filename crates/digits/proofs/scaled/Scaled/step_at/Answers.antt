@@ -1,0 +1,14 @@
+use Rattle.std.proofs.Common.{◌^◌, ◌≤◌, ◌*◌, mul-le-mul, arith, lit<, pow_mono}
+use native.Mathlib.Nat.{pow-le-pow_right}
+use Rattle.digits.proofs.PlaceUnits.{step_pos}
+use Rattle.digits.proofs.scaled.Scaled.step_at.Goals as goal
+
+pub returns-clause-small : goal.returns-clause-small
+returns-clause-small c =
+    let a : c.saturating_sub.result ≤ 50 = omega arith in
+    let b : c.saturating_sub-2.result ≤ 12 = omega arith in
+    let p : 2 ^ c.saturating_sub.result * 10 ^ c.saturating_sub-2.result ≤ 2 ^ 50 * 10 ^ 12 = mul-le-mul (pow_mono a) (pow-le-pow_right {n = 10} (lit< tt) b) in
+    rw (c.pow.ensures, c.pow-2.ensures) (omega arith)
+
+pub returns-clause-some : goal.returns-clause-some
+returns-clause-some c = rw (c.pow.ensures, c.pow-2.ensures, c.saturating_sub.ensures, c.saturating_sub-2.ensures) (step_pos c.args.self.power c.args.place)
