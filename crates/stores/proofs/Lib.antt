@@ -1,3 +1,3 @@
-pub mod Blanks
+pub mod Paged
 pub mod Records
-pub mod Laid
+pub mod Rolled

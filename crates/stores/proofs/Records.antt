@@ -1,15 +1,16 @@
--- Records of a roll: what a write into one does to the image, and that the reader gives back the text.
-use Rattle.std.proofs.Common.{◌≡◌, ℕ, zero, suc, ◌+◌, ◌-◌, ◌*◌, ◌%◌, ◌<◌, ◌≤◌, List, [], ◌∷◌, ◌++◌, length, get_or, take, drop, set, sym, refl, ap, ◌∙◌, mod-eq_of_lt, arith, length-append, length-drop, take-append-drop, length-take}
-use lib.ListN.{length-replicate}
-use Rattle.std.proofs.lemmas.List.{take_all, drop_all, take_at, drop_at, take-take, drop-take, take-append-le, drop-append-le, set_at, set-append_left, set-append_right, append_assoc, get_or_append_left, get_or-append_right, get_or-take, get_or-drop, length_push, replicate-append-replicate}
+-- Records of a roll: what the writes of a roll do to the image, and that the reader gives back the text.
+use Rattle.std.proofs.Common.{◌≡◌, ℕ, zero, suc, ◌+◌, ◌-◌, ◌*◌, ◌%◌, ◌<◌, ◌≤◌, List, [], ◌∷◌, ◌++◌, length, get_or, take, drop, set, sym, refl, ap, ◌∙◌, mod-eq_of_lt, add-one, arith, length-append, length-drop, take-append-drop, length-take}
+use Rattle.std.proofs.lemmas.List.{take_all, drop_all, take_at, drop_at, take-take, drop-take, drop-drop, take-append-le, drop-append-le, set_at, append_assoc, get_or_append_left, get_or-append_right, get_or-take, get_or-drop, length_push, replicate-append-replicate, drop-set-lt, length-replicate}
+use Rattle.std.proofs.Math.Seq.{take-append-add}
+use borrow.Rule.Slice.PartMut.{put_mid}
 use Rattle.stores.specs.Pages.{zeros}
 use Rattle.stores.specs.Rolls.{record_image, roll_image, record_text, roll_text}
 
-pub record_length : (text : List ℕ) → length text ≤ 63 → length (record_image text) ≡ 64
-record_length text l = simp (length-append, length-replicate) (omega arith)
-
 pub front_short : (held : List ℕ) → length (take 63 held) ≤ 63
 front_short held = rw length-take (omega arith)
+
+pub record_length : (text : List ℕ) → length text ≤ 63 → length (record_image text) ≡ 64
+record_length text l = simp (length-append, length-replicate) (omega arith)
 
 pub roll_length : (n : ℕ) (held : List ℕ) → length (roll_image n held) ≡ 64 * n
 roll_length zero held = refl
@@ -18,170 +19,127 @@ roll_length (suc n) held =
     let front = record_length (take 63 held) (front_short held) in
     rw length-append (omega arith)
 
+join : (a b c d : ℕ) → a + b ≡ c + d → zeros a ++ zeros b ≡ zeros c ++ zeros d
+join a b c d e = replicate-append-replicate a b 0 ∙ ap zeros e ∙ sym (replicate-append-replicate c d 0)
+
 -- an empty roll is all zeros
 pub roll_empty : (n : ℕ) → roll_image n [] ≡ zeros (64 * n)
 roll_empty zero = refl
-roll_empty (suc n) =
-    let e : 64 * suc n ≡ 64 + 64 * n = omega arith in
-    ap (λ xs. zeros 64 ++ xs) (roll_empty n) ∙ join 64 (64 * n) ∙ ap zeros (sym e)
-  where
-    join : (a b : ℕ) → zeros a ++ zeros b ≡ zeros (a + b)
-    join a b = replicate-append-replicate a b 0
+roll_empty (suc n) = (let e : 64 * suc n ≡ 64 + 64 * n = omega arith in rw (e, ← replicate-append-replicate {A = ℕ} 64 (64 * n) 0, roll_empty n))
 
--- Within one record, one write at a time: the count goes up over a zero byte, or down from one; the last byte changes.
+-- Where a roll's image is cut: its first q records, and those after them.
 
-pub record_count_up : (text : List ℕ) → length text < 63 → set (record_image text) 0 (length text + 1) ≡ record_image (text ++ 0 ∷ [])
-record_count_up text l =
-    let n = length text in
-    let left = 63 - (n + 1) in
-    let e : 63 - n ≡ suc left = omega arith in
-    let g : n + 1 ≡ length (text ++ 0 ∷ []) = sym (length_push text 0) in
-    ap (λ k. (n + 1) ∷ (text ++ zeros k)) e
-    ∙ ap (λ xs. (n + 1) ∷ xs) (sym (append_assoc text (0 ∷ []) (zeros left)))
-    ∙ ap (λ k. k ∷ ((text ++ 0 ∷ []) ++ zeros (63 - k))) g
+roll_split : (q m n : ℕ) (held : List ℕ) → n ≡ q + m → roll_image n held ≡ roll_image q held ++ roll_image m (drop (63 * q) held)
+roll_split zero m n held l = (let e : n ≡ m = omega arith in rw e)
+roll_split (suc q) m zero held l = absurd (omega arith)
+roll_split (suc q) m (suc n) held l =
+    let e : 63 * suc q ≡ 63 + 63 * q = omega arith in
+    let later = roll_image m (drop (63 + 63 * q) held) in
+    rw (roll_split q m n (drop 63 held) (omega arith), drop-drop (63 * q) 63 held, e) (sym (append_assoc (record_image (take 63 held)) (roll_image q (drop 63 held)) later))
 
-pub record_count_down : (text : List ℕ) → length text < 63 → set (record_image (text ++ 0 ∷ [])) 0 (length text) ≡ record_image text
-record_count_down text l =
-    ap (λ xs. set xs 0 (length text)) (sym (record_count_up text l))
+-- the first q records depend on no later text
+roll_take : (q n : ℕ) (held : List ℕ) → 63 * q ≤ n → roll_image q (take n held) ≡ roll_image q held
+roll_take zero n held l = refl
+roll_take (suc q) n held l =
+    let m = n - 63 in
+    let e : n ≡ 63 + m = omega arith in
+    rw (take-take 63 n held (omega arith), e, drop-take 63 m held, roll_take q m (drop 63 held) (omega arith))
 
-pub record_last : (text : List ℕ) (old new : ℕ) → set (record_image (text ++ old ∷ [])) (length text + 1) new ≡ record_image (text ++ new ∷ [])
-record_last text old new =
-    let n = length text in
-    let f : n + 1 ≡ suc n = omega arith in
-    let a : length (text ++ old ∷ []) ≡ n + 1 = length_push text old in
-    let b : n + 1 ≡ length (text ++ new ∷ []) = sym (length_push text new) in
-    let rest = zeros (63 - (n + 1)) in
-    ap (λ k. set (k ∷ ((text ++ old ∷ []) ++ zeros (63 - k))) (n + 1) new) a
-    ∙ ap (λ k. set ((n + 1) ∷ ((text ++ old ∷ []) ++ rest)) k new) f
-    ∙ ap (λ xs. (n + 1) ∷ set xs n new) (append_assoc text (old ∷ []) rest)
-    ∙ ap (λ xs. (n + 1) ∷ xs) (set_at text old rest new n refl ∙ sym (append_assoc text (new ∷ []) rest))
-    ∙ ap (λ k. k ∷ ((text ++ new ∷ []) ++ zeros (63 - k))) b
+roll_push : (q : ℕ) (held : List ℕ) (byte : ℕ) → 63 * q ≤ length held → roll_image q (held ++ byte ∷ []) ≡ roll_image q held
+roll_push q held byte h =
+    rw (← roll_take q (63 * q) (held ++ byte ∷ []) (omega arith), ← roll_take q (63 * q) held (omega arith), take-append-le (63 * q) held (byte ∷ []) h)
 
--- In the roll: after q full records, a write that turns the record of one text into that of another.
-pub roll_write : (n q i value : ℕ) (full old new : List ℕ) → length full ≡ 63 * q → length old ≤ 63 → length new ≤ 63 → i < 64 → q < n →
-    set (record_image old) i value ≡ record_image new → set (roll_image n (full ++ old)) (64 * q + i) value ≡ roll_image n (full ++ new)
-roll_write zero q i value full old new e a b k l w = absurd (omega arith)
-roll_write (suc n) zero i value (x ∷ full) old new e a b k l w = absurd (omega arith)
-roll_write (suc n) zero i value [] old new e a b k l w =
-    let j : 64 * 0 + i ≡ i = omega arith in
-    let m = record_length old a in
-    let rest = roll_image n [] in
-    ap (λ k. set (record_image (take 63 old) ++ roll_image n (drop 63 old)) k value) j
-    ∙ ap (λ xs. set (record_image xs ++ roll_image n (drop 63 old)) i value) (take_all 63 old a)
-    ∙ ap (λ xs. set (record_image old ++ roll_image n xs) i value) (drop_all 63 old a)
-    ∙ set-append_left (record_image old) rest i value (omega arith)
-    ∙ ap (λ xs. xs ++ rest) (w ∙ ap record_image (sym (take_all 63 new b)))
-    ∙ ap (λ xs. record_image (take 63 new) ++ roll_image n xs) (sym (drop_all 63 new b))
-roll_write (suc n) (suc q) i value full old new e a b k l w =
-    let long : 63 ≤ length full = omega arith in
-    let front = record_image (take 63 full) in
-    let later = drop 63 full in
-    let m = record_length (take 63 full) (front_short full) in
-    let j : 64 * suc q + i ≡ 64 + (64 * q + i) = omega arith in
-    let h : length later ≡ 63 * q = rw length-drop (omega arith) in
-    ap (λ k. set (roll_image (suc n) (full ++ old)) k value) j
-    ∙ ap (λ xs. set (record_image xs ++ roll_image n (drop 63 (full ++ old))) (64 + (64 * q + i)) value) (take-append-le 63 full old long)
-    ∙ ap (λ xs. set (front ++ roll_image n xs) (64 + (64 * q + i)) value) (drop-append-le 63 full old long)
-    ∙ set_after front (roll_image n (later ++ old)) 64 (64 * q + i) value m
-    ∙ ap (λ xs. front ++ xs) (roll_write n q i value later old new h a b k (omega arith) w)
-    ∙ ap (λ xs. record_image xs ++ roll_image n (later ++ new)) (sym (take-append-le 63 full new long))
-    ∙ ap (λ xs. record_image (take 63 (full ++ new)) ++ roll_image n xs) (sym (drop-append-le 63 full new long))
-  where
-    set_after : (xs ys : List ℕ) (n i a : ℕ) → length xs ≡ n → set (xs ++ ys) (n + i) a ≡ xs ++ set ys i a
-    set_after xs ys n i a e =
-        let p : n + i - n ≡ i = omega arith in
-        set-append_right xs ys n (n + i) a e (omega arith) ∙ ap (λ k. xs ++ set ys k a) p
+-- the records from q on, of which there is one at least
+later_records : (n q : ℕ) (held : List ℕ) → q < n → roll_image n held ≡ roll_image q held ++ roll_image (suc (n - (q + 1))) (drop (63 * q) held)
+later_records n q held l = roll_split q (suc (n - (q + 1))) n held (omega arith)
 
-pub regroup : (k : ℕ) (held : List ℕ) (x : ℕ) → held ++ x ∷ [] ≡ take k held ++ (drop k held ++ x ∷ [])
-regroup k held x = ap (λ xs. xs ++ x ∷ []) (sym (take-append-drop k held)) ∙ append_assoc (take k held) (drop k held) (x ∷ [])
-
--- The three writes, at a text of q full records and o bytes in the next.
-
-pub roll_count_up : (n q o : ℕ) (held : List ℕ) → length held ≡ 63 * q + o → o < 63 → q < n →
-    set (roll_image n held) (64 * q) (o + 1) ≡ roll_image n (held ++ 0 ∷ [])
-roll_count_up n q o held e l h =
-    let full = take (63 * q) held in
+-- where the text ends in the record after q others
+last_record : (n q : ℕ) (held : List ℕ) → q < n → length held ≤ 63 * q + 63 →
+    roll_image n held ≡ roll_image q held ++ (record_image (drop (63 * q) held) ++ zeros (64 * (n - (q + 1))))
+last_record n q held l f =
     let text = drop (63 * q) held in
-    let f : length full ≡ 63 * q = rw length-take (omega arith) in
-    let t : length text ≡ o = rw length-drop (omega arith) in
-    let g : length (text ++ 0 ∷ []) ≤ 63 = rw length_push (omega arith) in
-    let i : 64 * q ≡ 64 * q + 0 = omega arith in
-    let w : set (record_image text) 0 (o + 1) ≡ record_image (text ++ 0 ∷ []) = ap (λ k. set (record_image text) 0 (k + 1)) (sym t) ∙ record_count_up text (omega arith) in
-    ap (λ xs. set (roll_image n xs) (64 * q) (o + 1)) (sym (take-append-drop (63 * q) held))
-    ∙ ap (λ k. set (roll_image n (full ++ text)) k (o + 1)) i
-    ∙ roll_write n q 0 (o + 1) full text (text ++ 0 ∷ []) f (omega arith) g (omega arith) h w
-    ∙ ap (roll_image n) (sym (regroup (63 * q) held 0))
+    let short : length text ≤ 63 = rw length-drop (omega arith) in
+    rw (later_records n q held l, take_all 63 text short, drop_all 63 text short, roll_empty (n - (q + 1)))
 
-pub roll_count_down : (n q o : ℕ) (held : List ℕ) → length held ≡ 63 * q + o → o < 63 → q < n →
-    set (roll_image n (held ++ 0 ∷ [])) (64 * q) o ≡ roll_image n held
-roll_count_down n q o held e l h =
-    let full = take (63 * q) held in
-    let text = drop (63 * q) held in
-    let f : length full ≡ 63 * q = rw length-take (omega arith) in
-    let t : length text ≡ o = rw length-drop (omega arith) in
-    let g : length (text ++ 0 ∷ []) ≤ 63 = rw length_push (omega arith) in
-    let i : 64 * q ≡ 64 * q + 0 = omega arith in
-    let w : set (record_image (text ++ 0 ∷ [])) 0 o ≡ record_image text = ap (λ k. set (record_image (text ++ 0 ∷ [])) 0 k) (sym t) ∙ record_count_down text (omega arith) in
-    ap (λ xs. set (roll_image n xs) (64 * q) o) (regroup (63 * q) held 0)
-    ∙ ap (λ k. set (roll_image n (full ++ (text ++ 0 ∷ []))) k o) i
-    ∙ roll_write n q 0 o full (text ++ 0 ∷ []) text f g (omega arith) (omega arith) h w
-    ∙ ap (roll_image n) (take-append-drop (63 * q) held)
+-- past the text's last record
+roll_rest : (n p : ℕ) (held : List ℕ) → p ≤ n → length held ≤ 63 * p → drop (64 * p) (roll_image n held) ≡ zeros (64 * (n - p))
+roll_rest n p held l f =
+    let m = n - p in
+    rw (roll_split p m n held (omega arith), drop_at (roll_image p held) (roll_image m (drop (63 * p) held)) (64 * p) (roll_length p held), drop_all (63 * p) held f, roll_empty)
 
-pub roll_last : (n q o : ℕ) (held : List ℕ) (old new : ℕ) → length held ≡ 63 * q + o → o < 63 → q < n →
-    set (roll_image n (held ++ old ∷ [])) (64 * q + (o + 1)) new ≡ roll_image n (held ++ new ∷ [])
-roll_last n q o held old new e l h =
-    let full = take (63 * q) held in
+-- What put writes, where the text has q full records and o bytes in the next: the count there, and the byte.
+
+two_writes : (front text rest all : List ℕ) (x old count byte i j : ℕ) → length front ≡ i → j ≡ i + (length text + 1) →
+    set (set (front ++ x ∷ ((text ++ old ∷ rest) ++ all)) i count) j byte ≡ front ++ count ∷ (((text ++ byte ∷ []) ++ rest) ++ all)
+two_writes front text rest all x old count byte i j e f =
+    let g : length (front ++ count ∷ text) ≡ j = rw length-append (omega arith) in
+    ap (λ xs. set xs j byte) (set_at front x ((text ++ old ∷ rest) ++ all) count i e) ∙ simp append_assoc (simp append_assoc at (set_at (front ++ count ∷ text) old (rest ++ all) byte j g))
+
+pub image_put : (n q o byte : ℕ) (held : List ℕ) → length held ≡ 63 * q + o → o < 63 → q < n →
+    set (set (roll_image n held) (64 * q) (o + 1)) (64 * q + (o + 1)) byte ≡ roll_image n (held ++ byte ∷ [])
+image_put n q o byte held e s l =
     let text = drop (63 * q) held in
-    let f : length full ≡ 63 * q = rw length-take (omega arith) in
     let t : length text ≡ o = rw length-drop (omega arith) in
-    let a : length (text ++ old ∷ []) ≤ 63 = rw length_push (omega arith) in
-    let b : length (text ++ new ∷ []) ≤ 63 = rw length_push (omega arith) in
-    let w : set (record_image (text ++ old ∷ [])) (o + 1) new ≡ record_image (text ++ new ∷ []) =
-    ap (λ k. set (record_image (text ++ old ∷ [])) (k + 1) new) (sym t) ∙ record_last text old new
+    let g : length (held ++ byte ∷ []) ≤ 63 * q + 63 = rw length_push (omega arith) in
+    let h : 63 * q ≤ length held = omega arith in
+    let k : 63 - o ≡ suc (62 - o) = omega arith in
+    let m : 63 - (o + 1) ≡ 62 - o = omega arith in
+    let w = two_writes (roll_image q held) text (zeros (62 - o)) (zeros (64 * (n - (q + 1)))) o 0 (o + 1) byte (64 * q) (64 * q + (o + 1)) (roll_length q held) (omega arith) in
+    rw (last_record n q held l (omega arith), last_record n q (held ++ byte ∷ []) l g, roll_push q held byte h, drop-append-le (63 * q) held (byte ∷ []) h, length_push text byte, t, k, m)
+    w
+
+-- What cut writes, where it keeps q full records and o bytes of the next: the count there, and zeros to the end of record p.
+
+pub image_cut : (n q o p : ℕ) (held : List ℕ) → 63 * q + o < length held → o < 63 → length held ≤ 63 * p → p ≤ n →
+    put_mid (64 * q + (o + 1)) (64 * p - (64 * q + (o + 1))) (set (roll_image n held) (64 * q) o) (zeros (64 * p - (64 * q + (o + 1)))) ≡ roll_image n (take (63 * q + o) held)
+image_cut n q o p held e s f l =
+    let m = n - (q + 1) in
+    let h : q < n = omega arith in
+    let i = 64 * q + (o + 1) in
+    let front = roll_image q held in
+    let text = drop (63 * q) held in
+    let first = take 63 text in
+    let rest = zeros (63 - length first) in
+    let more = roll_image m (drop 63 text) in
+    let new = set (roll_image n held) (64 * q) o in
+    let t : o < length text = rw length-drop (omega arith) in
+    let u : o ≤ length first = rw length-take (omega arith) in
+    let v : length (take o text) ≡ o = rw length-take (omega arith) in
+    let g : length (take (63 * q + o) held) ≤ 63 * q + 63 = rw length-take (omega arith) in
+    let w : i ≡ length front + (o + 1) = (let z = roll_length q held in omega arith) in
+    let z : i + (64 * p - i) ≡ 64 * p = omega arith in
+    let before : take i new ≡ front ++ o ∷ take o text =
+    rw (later_records n q held h, set_at front (length first) ((first ++ rest) ++ more) o (64 * q) (roll_length q held), w, take-append-add, add-one o)
+    (ap (λ xs. front ++ o ∷ xs) (take-append-le o (first ++ rest) more (rw length-append (omega arith)) ∙ take-append-le o first rest u ∙ take-take o 63 text (omega arith)))
     in
-    ap (λ xs. set (roll_image n xs) (64 * q + (o + 1)) new) (regroup (63 * q) held old)
-    ∙ roll_write n q (o + 1) new full (text ++ old ∷ []) (text ++ new ∷ []) f a b (omega arith) h w
-    ∙ ap (roll_image n) (sym (regroup (63 * q) held new))
+    rw (drop-drop (64 * p - i) i new, z, drop-set-lt (64 * p) (roll_image n held) (64 * q) o (omega arith), roll_rest n p held l f, before)
+    (rw (last_record n q (take (63 * q + o) held) h g, roll_take q (63 * q + o) held (omega arith), drop-take (63 * q) o held, v, append_assoc, join (64 * p - i) (64 * (n - p)) (63 - o) (64 * m) (omega arith))
+    (ap (λ xs. front ++ o ∷ xs) (sym (append_assoc (take o text) (zeros (63 - o)) (zeros (64 * m))))))
 
 -- where the image has the byte at a place of the text
-pub roll_byte : (n q o : ℕ) (held : List ℕ) → 63 * q + o < length held → length held ≤ 63 * n → o < 63 →
+pub image_byte : (n q o : ℕ) (held : List ℕ) → 63 * q + o < length held → q < n → o < 63 →
     get_or (roll_image n held) (64 * q + (o + 1)) 0 ≡ get_or held (63 * q + o) 0
-roll_byte zero q o held e h l = absurd (omega arith)
-roll_byte (suc n) zero o held e h l =
-    let text = take 63 held in
-    let w = record_length text (front_short held) in
-    let k : o < length text = rw length-take (omega arith) in
-    let i : 64 * 0 + (o + 1) ≡ suc o = omega arith in
-    let j : o ≡ 63 * 0 + o = omega arith in
-    ap (λ m. get_or (record_image text ++ roll_image n (drop 63 held)) m 0) i
-    ∙ get_or_append_left (record_image text) (roll_image n (drop 63 held)) 0 (suc o) (omega arith)
-    ∙ get_or_append_left text (zeros (63 - length text)) 0 o k
-    ∙ get_or-take 63 held o 0 l
-    ∙ ap (λ m. get_or held m 0) j
-roll_byte (suc n) (suc q) o held e h l =
-    let front = record_image (take 63 held) in
-    let rest = drop 63 held in
-    let w = record_length (take 63 held) (front_short held) in
-    let i : 64 * suc q + (o + 1) - 64 ≡ 64 * q + (o + 1) = omega arith in
-    let j : 63 + (63 * q + o) ≡ 63 * suc q + o = omega arith in
-    let m : length rest ≡ length held - 63 = length-drop 63 held in
-    get_or-append_right front (roll_image n rest) 64 (64 * suc q + (o + 1)) 0 w (omega arith)
-    ∙ ap (λ k. get_or (roll_image n rest) k 0) i
-    ∙ roll_byte n q o rest (omega arith) (omega arith) l
-    ∙ get_or-drop 63 held (63 * q + o) 0
-    ∙ ap (λ k. get_or held k 0) j
+image_byte n q o held e l s =
+    let front = roll_image q held in
+    let text = drop (63 * q) held in
+    let first = take 63 text in
+    let rest = zeros (63 - length first) in
+    let more = roll_image (n - (q + 1)) (drop 63 text) in
+    let t : o < length text = rw length-drop (omega arith) in
+    let u : o < length first = rw length-take (omega arith) in
+    let i : 64 * q + (o + 1) - 64 * q ≡ suc o = omega arith in
+    rw (later_records n q held l, get_or-append_right front (record_image first ++ more) (64 * q) (64 * q + (o + 1)) 0 (roll_length q held) (omega arith), i)
+    (get_or_append_left (first ++ rest) more 0 o (rw length-append (omega arith)) ∙ get_or_append_left first rest 0 o u ∙ get_or-take 63 text o 0 s ∙ get_or-drop (63 * q) held o 0)
 
 -- The reader.
 
-pub record_read : (text : List ℕ) → length text ≤ 63 → record_text (record_image text) ≡ text
+record_read : (text : List ℕ) → length text ≤ 63 → record_text (record_image text) ≡ text
 record_read text l =
     let n = length text in
     let e : n % 64 ≡ n = mod-eq_of_lt (omega arith) in
-    ap (λ k. take k (take 63 (text ++ zeros (63 - n)))) e
-    ∙ take-take n 63 (text ++ zeros (63 - n)) l
-    ∙ take_at text (zeros (63 - n)) n refl
+    rw (e, take-take n 63 (text ++ zeros (63 - n)) l, take_at text (zeros (63 - n)) n refl)
 
-pub roll_read : (n : ℕ) (held : List ℕ) → length held ≤ 63 * n → roll_text n (roll_image n held) ≡ held
+roll_read : (n : ℕ) (held : List ℕ) → length held ≤ 63 * n → roll_text n (roll_image n held) ≡ held
 roll_read zero [] h = refl
 roll_read zero (b ∷ held) h = absurd (omega arith)
 roll_read (suc n) held h =
@@ -190,21 +148,14 @@ roll_read (suc n) held h =
     let w = record_length (take 63 held) (front_short held) in
     let m : length (drop 63 held) ≤ 63 * n = rw length-drop (omega arith) in
     ap (λ xs. record_text xs ++ roll_text n (drop 64 (front ++ rest))) (take_at front rest 64 w)
-    ∙ ap (λ xs. record_text front ++ roll_text n xs) (drop_at front rest 64 w)
-    ∙ ap (λ xs. xs ++ roll_text n rest) (record_read (take 63 held) (front_short held))
-    ∙ ap (λ xs. take 63 held ++ xs) (roll_read n (drop 63 held) m)
-    ∙ take-append-drop 63 held
+    ∙ rw (drop_at front rest 64 w, record_read (take 63 held) (front_short held), roll_read n (drop 63 held) m, take-append-drop 63 held)
 
 -- only the first n records are read
-pub roll_front : (n : ℕ) (bytes : List ℕ) → roll_text n bytes ≡ roll_text n (take (64 * n) bytes)
+roll_front : (n : ℕ) (bytes : List ℕ) → roll_text n bytes ≡ roll_text n (take (64 * n) bytes)
 roll_front zero bytes = refl
 roll_front (suc n) bytes =
     let e : 64 * suc n ≡ 64 + 64 * n = omega arith in
-    let a : take 64 (take (64 * suc n) bytes) ≡ take 64 bytes = ap (λ k. take 64 (take k bytes)) e ∙ take-take 64 (64 + 64 * n) bytes (omega arith) in
-    let b : drop 64 (take (64 * suc n) bytes) ≡ take (64 * n) (drop 64 bytes) = ap (λ k. drop 64 (take k bytes)) e ∙ drop-take 64 (64 * n) bytes in
-    ap (λ xs. record_text (take 64 bytes) ++ xs) (roll_front n (drop 64 bytes))
-    ∙ ap (λ xs. record_text xs ++ roll_text n (take (64 * n) (drop 64 bytes))) (sym a)
-    ∙ ap (λ xs. record_text (take 64 (take (64 * suc n) bytes)) ++ roll_text n xs) (sym b)
+    rw (e, take-take 64 (64 + 64 * n) bytes (omega arith), drop-take 64 (64 * n) bytes, roll_front n (drop 64 bytes))
 
 -- a buffer whose first n records are the image of a text reads as that text
 pub image_reads : (n : ℕ) (bytes held : List ℕ) → length held ≤ 63 * n → take (64 * n) bytes ≡ roll_image n held → roll_text n bytes ≡ held

@@ -1,8 +1,8 @@
 -- A roll: records of 64 bytes. The low six bits of a record's first byte count its text bytes; the text follows;
 -- zeros fill the rest; a record is full before the next begins.
 use Rattle.std.specs.Prelude.{◌≡◌, ℕ, zero, suc, ◌-◌, ◌*◌, ◌/◌, ◌%◌, ◌≤◌, List, [], ◌∷◌, ◌++◌, length, take, drop, slice_index}
-use Rattle.std.proofs.Common.{arith, length-take, length-append}
 use Rattle.stores.specs.Reach.{reach}
+use Rattle.stores.specs.Sheets.{Sheet, size_of}
 use Rattle.stores.specs.Pages.{zeros}
 
 -- Writing: the record of a text of at most 63 bytes, and the image of n records that hold a text.
@@ -31,10 +31,13 @@ read_roll bytes = roll_text (reach bytes / 64) bytes
 abbrev pub RollReadsBack : Type 0
 RollReadsBack = (n : ℕ) (held beyond : List ℕ) → length held ≤ 63 * n → roll_text n (roll_image n held ++ beyond) ≡ held
 
--- a record's text has at most 63 bytes
-pub roll_text_within : (n : ℕ) (bytes : List ℕ) → length (roll_text n bytes) ≤ 63 * n
-roll_text_within zero bytes = omega arith
-roll_text_within (suc n) bytes =
-    let rest = roll_text_within n (drop 64 bytes) in
-    let front : length (record_text (take 64 bytes)) ≤ 63 = rw (length-take, length-take) (omega arith) in
-    rw length-append (omega arith)
+-- how many records a roll has, by its size
+abbrev pub records_of : Sheet → ℕ
+records_of s = size_of s / 63
+
+-- what is true of every roll's fields
+pub record IsRoll (records len : ℕ) (buffer : List ℕ) : Type 0 where
+  pub sized : records ≡ reach buffer / 64
+  pub laid : take (64 * records) buffer ≡ roll_image records (roll_text records buffer)
+  pub counted : len ≡ length (roll_text records buffer)
+  pub fits : len ≤ 63 * records

@@ -18,7 +18,5 @@ pub fn clear(buffer: &mut [u8], count: usize)
     requires { count ≤ length buffer.old }
     ensures { buffer.new ≡ zeros count ++ drop count buffer.old }
 {
-    for i in 0..count {
-        buffer[i] = 0;
-    }
+    buffer[..count].fill(0);
 }

@@ -3,35 +3,56 @@
 //!
 //! The size is 63 for each whole record among the first 1,048,576 bytes; bytes after those records are never touched.
 
-ghost use Rattle.std.specs.Prelude.{◌≡◌, ℕ, ◌+◌, ◌*◌, ◌/◌, ◌≤◌, [], ◌++◌, length, take, drop};
-ghost use Rattle.stores.specs.Meaning.{Put, Cut};
+ghost use Rattle.std.specs.Prelude.{◌≡◌, ℕ, ◌+◌, ◌*◌, ◌/◌, ◌%◌, ◌<◌, ◌++◌, length, drop};
 ghost use Rattle.stores.specs.Reach.{reach};
-ghost use Rattle.stores.specs.Rolls.{roll_image, roll_text, read_roll, roll_text_within, RollReadsBack};
+ghost use Rattle.stores.specs.Sheets.{size_of, empty_sheet, sheet_within};
+ghost use Rattle.stores.specs.Rolls.{records_of, roll_image, read_roll, RollReadsBack};
 
 use crate::buffers::{clear, reach_of};
 use crate::{Full, Short, Store};
+use std::marker::Model;
 
 /// The bytes of a record, and those of its text.
 const RECORD: usize = 64;
 
 const TEXT: usize = 63;
 
+// Kept: a length beside the buffer, which the caller lends, since the library has no heap.
+// Kept: a struct beside `Page`, with which it shares what callers see (`Sheet`), but not one step of put, cut or byte.
+/// A roll over a buffer that is lent.
 #[derive(Drop)]
 pub struct Roll<'a> {
     buffer: &'a mut [u8],
     records: usize,
     len: usize,
-    ghost sized: { records ≡ reach buffer.now / 64 },
-    ghost laid: { take (64 * records) buffer.now ≡ roll_image records (roll_text records buffer.now) },
-    ghost counted: { len ≡ length (roll_text records buffer.now) },
+}
+
+impl<'a> Model for Roll<'a> {
+    ghost use Rattle.std.specs.Prelude.{◌-◌, ◌*◌, drop};
+    ghost use Rattle.stores.specs.Sheets.{Sheet};
+    ghost use Rattle.stores.specs.Rolls.{roll_text, IsRoll};
+
+    ghost Value = { Sheet };
+
+    ghost view = { λ r. record { held = roll_text r.records r.buffer.now; room = 63 * r.records - r.len; beyond = drop (64 * r.records) r.buffer.now } };
+
+    ghost invariant = { λ r. IsRoll r.records r.len r.buffer.now };
+}
+
+/// Where the record begins that has the byte at a place of the text, and where that byte stands.
+fn spot(place: usize) -> (usize, usize)
+    requires { place < 1048576 }
+    ensures record { result.0 ≡ 64 * (place / 63) }
+    ensures byte { result.1 ≡ 64 * (place / 63) + (place % 63 + 1) }
+{
+    let record = RECORD * (place / TEXT);
+    (record, record + (place % TEXT + 1))
 }
 
 impl<'a> Roll<'a> {
     /// An empty roll over a buffer.
     pub fn new(buffer: &'a mut [u8]) -> Roll<'a>
-        ensures records { result.records ≡ reach buffer.old / 64 }
-        ensures image { result.buffer.now ≡ roll_image result.records [] ++ drop (64 * result.records) buffer.old }
-        ensures empty { roll_text result.records result.buffer.now ≡ [] }
+        ensures { result ≡ empty_sheet (63 * (reach buffer.old / 64)) (drop (64 * (reach buffer.old / 64)) buffer.old) }
     {
         let records = reach_of(buffer) / RECORD;
         clear(buffer, RECORD * records);
@@ -44,59 +65,52 @@ impl<'a> Roll<'a> {
 
     /// The whole buffer, as the roll laid it out.
     pub fn image(&self) -> &[u8]
-        ensures same { result.now ≡ self.now.buffer.now }
-        ensures image { result.now ≡ roll_image self.now.records (roll_text self.now.records result.now) ++ drop (64 * self.now.records) result.now }
-        ensures reads { read_roll result.now ≡ roll_text self.now.records self.now.buffer.now }
+        ensures image { result.now ≡ roll_image (records_of self.now) self.now.held ++ self.now.beyond }
+        ensures sized { size_of self.now ≡ 63 * (reach result.now / 64) }
+        ensures reads { read_roll result.now ≡ self.now.held }
     {
         &self.buffer[..]
     }
 
     /// The records alone.
     pub fn records(&self) -> &[u8]
-        ensures { result.now ≡ roll_image self.now.records (roll_text self.now.records self.now.buffer.now) }
+        ensures image { result.now ≡ roll_image (records_of self.now) self.now.held }
+        ensures sized { 64 * size_of self.now ≡ 63 * length result.now }
     {
-        &self.buffer[0..RECORD * self.records]
+        &self.buffer[..RECORD * self.records]
     }
 }
 
 impl<'a> Store for Roll<'a> {
-    ghost held = { λ r. roll_text r.records r.buffer.now };
+    ghost held = { λ r. r.held };
 
-    ghost capacity = { λ r. 63 * r.records };
+    ghost capacity = { size_of };
 
-    ghost within = { λ r. roll_text_within r.records r.buffer.now };
+    ghost beyond = { λ r. r.beyond };
 
-    fn put(&mut self, byte: u8) -> Result<(), Full>
-        ensures sized { 63 * self.new.records ≡ 63 * self.old.records }
-        ensures cases { Put (roll_text self.old.records self.old.buffer.now) (63 * self.old.records) byte (roll_text self.new.records self.new.buffer.now) result }
-        ensures beyond { drop (64 * self.old.records) self.new.buffer.now ≡ drop (64 * self.old.records) self.old.buffer.now }
-    {
+    ghost within = { sheet_within };
+
+    fn put(&mut self, byte: u8) -> Result<(), Full> {
         if self.len >= TEXT * self.records {
             return Err(Full);
         }
-        let record = RECORD * (self.len / TEXT);
-        let count = self.len % TEXT + 1;
-        self.buffer[record] = count as u8;
+        let (record, place) = spot(self.len);
+        self.buffer[record] = (self.len % TEXT + 1) as u8;
+        self.buffer[place] = byte;
         self.len += 1;
-        self.buffer[record + count] = byte;
         Ok(())
     }
 
-    fn cut(&mut self, count: usize) -> Result<(), Short>
-        ensures sized { 63 * self.new.records ≡ 63 * self.old.records }
-        ensures cases { Cut (roll_text self.old.records self.old.buffer.now) count (roll_text self.new.records self.new.buffer.now) result }
-        ensures beyond { drop (64 * self.old.records) self.new.buffer.now ≡ drop (64 * self.old.records) self.old.buffer.now }
-    {
+    fn cut(&mut self, count: usize) -> Result<(), Short> {
         if count > self.len {
             return Err(Short);
         }
-        while self.len > count {
-            let last = self.len - 1;
-            let record = RECORD * (last / TEXT);
-            let before = last % TEXT;
-            self.buffer[record + (before + 1)] = 0;
-            self.buffer[record] = before as u8;
-            self.len = last;
+        if count < self.len {
+            let (record, place) = spot(count);
+            let end = RECORD * self.len.div_ceil(TEXT);
+            self.buffer[record] = (count % TEXT) as u8;
+            self.buffer[place..end].fill(0);
+            self.len = count;
         }
         Ok(())
     }
@@ -113,7 +127,7 @@ impl<'a> Store for Roll<'a> {
         if place >= self.len {
             return None;
         }
-        Some(self.buffer[RECORD * (place / TEXT) + (place % TEXT + 1)])
+        Some(self.buffer[spot(place).1])
     }
 }
 

@@ -1,10 +1,12 @@
-use Rattle.std.proofs.Common.{◌*◌, ◌++◌, drop, sym, refl, ap, ◌∙◌}
-use Rattle.std.proofs.lemmas.List.{take-append-drop}
-use Rattle.stores.specs.Rolls.{roll_text}
+use Rattle.std.proofs.Common.{◌*◌, ◌++◌, drop, ap, ◌∙◌, sym, arith, take-append-drop}
+use Rattle.stores.proofs.Rolled.{rolled_records}
 use Rattle.stores.proofs.rolls.Roll.image.Goals as goal
 
-pub returns : goal.returns
-returns c =
-    let r = c.args.self.now in
-    let n = 64 * r.records in
-    record { same = refl; image = sym (take-append-drop n r.buffer.now) ∙ ap (λ xs. xs ++ drop n r.buffer.now) r.laid; reads = ap (λ k. roll_text k r.buffer.now) (sym r.sized) }
+pub returns-clause-image : goal.returns-clause-image
+returns-clause-image c =
+    let r = c.self.inside in
+    let rest = drop (64 * r.records) r.buffer.now in
+    rw (← c.self.view_is) (sym (take-append-drop (64 * r.records) r.buffer.now) ∙ ap (λ xs. xs ++ rest) (rolled_records r.records r.len r.buffer.now c.self.invariant))
+
+pub returns-clause-sized : goal.returns-clause-sized
+returns-clause-sized c = rw (← c.self.view_is) (omega arith)
