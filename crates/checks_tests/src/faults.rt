@@ -4,9 +4,8 @@ use crate::sheets::*;
 use checks::calls::{check_draw, check_gradient};
 use drawing::faults::Fault;
 use drawing::rows::{
-    BaseGradient, BaselineShift, Fill, Font, FontFamily, Group, Image, Paint, Path, PathSegment,
-    Place, Stop, Stroke, Text, TextChunk, TextDecoration, TextDecorationStyle, TextFlow, TextPath,
-    TextSpan, Transform,
+    BaselineShift, Fill, FontFamily, Paint, PathSegment, Stroke, TextDecoration,
+    TextDecorationStyle, TextFlow, TextPath,
 };
 use std::process::Abort;
 use std::test::Fail;
@@ -17,533 +16,251 @@ const TOO_LARGE: f32 = 1099511758848.0;
 /// The largest f32 below the least that is shown bare.
 const TOO_SMALL: f32 = 9.999999e-9;
 
-fn names(fault: Fault, attribute: &[u8]) -> bool {
-    match fault.attribute() {
-        Some(name) => name.name() == attribute,
-        None => attribute.len() == 0,
-    }
+// The answer is a fault: the number of its rule, its attribute (empty for none) and its node.
+fn says<R: Abort>(
+    rt: &R,
+    answer: Result<(), Fault>,
+    rule: u8,
+    attribute: &[u8],
+    node: Option<usize>,
+) -> Result<(), Fail> {
+    let Err(fault) = answer else {
+        return Err(Fail::new("it is accepted"));
+    };
+    let name = match fault.attribute() {
+        Some(id) => id.name(),
+        None => b"",
+    };
+    assert_eq!(rt; fault.number(), rule);
+    assert!(rt; name == attribute);
+    assert_eq!(rt; fault.node(), node);
+    Ok(())
 }
 
-/// The drawing is refused at its first node: the rule, the attribute (empty for none) and the node.
-pub fn refused(
-    rt: &impl Abort,
-    sheet: &Sheet,
+/// The good drawing, after a change, is refused at its first node: the rule, the attribute and the node.
+pub fn refused<R: Abort, F: FnOnce(&mut Sheet)>(
+    rt: &R,
     rule: u8,
     attribute: &[u8],
     node: usize,
-) -> Result<(), Fail> {
-    match check_draw(&sheet.drawing(), 0) {
-        Ok(()) => Err(Fail::new("it is accepted")),
-        Err(fault) => {
-            assert_eq!(rt; fault.number(), rule);
-            assert!(rt; names(fault, attribute));
-            assert_eq!(rt; fault.node(), Some(node));
-            Ok(())
-        }
-    }
+    change: F,
+) -> Result<(), Fail>
+    requires { F.IsAlwaysCallable change }
+{
+    let sheet = Sheet::changed(change);
+    says(
+        rt,
+        check_draw(&sheet.drawing(), 0),
+        rule,
+        attribute,
+        Some(node),
+    )
 }
 
-pub fn accepted(sheet: &Sheet) -> Result<(), Fail> {
+pub fn accepted<F: FnOnce(&mut Sheet)>(change: F) -> Result<(), Fail>
+    requires { F.IsAlwaysCallable change }
+{
+    let sheet = Sheet::changed(change);
     match check_draw(&sheet.drawing(), 0) {
         Ok(()) => Ok(()),
         Err(_) => Err(Fail::new("it is refused")),
     }
 }
 
-fn gradient_refused(
-    rt: &impl Abort,
-    sheet: &Sheet,
+fn gradient_refused<R: Abort, F: FnOnce(&mut Sheet)>(
+    rt: &R,
     rule: u8,
     attribute: &[u8],
-) -> Result<(), Fail> {
-    match check_gradient(&sheet.drawing(), 0) {
-        Ok(()) => Err(Fail::new("it is accepted")),
-        Err(fault) => {
-            assert_eq!(rt; fault.number(), rule);
-            assert!(rt; names(fault, attribute));
-            assert_eq!(rt; fault.node(), None);
-            Ok(())
-        }
-    }
-}
-
-// ---- the good drawing with one row in another's place
-
-fn with_group(group: Group) -> Sheet {
-    let good = Sheet::good();
-    Sheet {
-        groups: [group, good.groups[1]],
-        ..good
-    }
-}
-
-pub fn with_path(path: Path) -> Sheet {
-    let good = Sheet::good();
-    Sheet {
-        paths: [path, good.paths[1]],
-        ..good
-    }
-}
-
-pub fn with_fill(fill: Fill) -> Sheet {
-    with_path(Path {
-        fill: Some(fill),
-        ..Sheet::good().paths[0]
-    })
-}
-
-pub fn with_stroke(stroke: Stroke) -> Sheet {
-    with_path(Path {
-        stroke: Some(stroke),
-        ..Sheet::good().paths[0]
-    })
-}
-
-fn with_segment(segment: PathSegment) -> Sheet {
-    let good = Sheet::good();
-    Sheet {
-        segments: [
-            good.segments[0],
-            segment,
-            segment,
-            segment,
-            segment,
-            segment,
-        ],
-        ..good
-    }
-}
-
-fn with_image(image: Image) -> Sheet {
-    Sheet {
-        images: [image],
-        ..Sheet::good()
-    }
-}
-
-fn with_text(text: Text) -> Sheet {
-    Sheet {
-        texts: [text],
-        ..Sheet::good()
-    }
-}
-
-fn with_chunk(chunk: TextChunk) -> Sheet {
-    let good = Sheet::good();
-    Sheet {
-        chunks: [good.chunks[0], chunk],
-        ..good
-    }
-}
-
-pub fn with_span(span: TextSpan) -> Sheet {
-    let good = Sheet::good();
-    Sheet {
-        spans: [good.spans[0], span],
-        ..good
-    }
-}
-
-fn with_family(name: Place) -> Sheet {
-    Sheet {
-        families: [FontFamily::Monospace, FontFamily::Named(name)],
-        ..Sheet::good()
-    }
-}
-
-fn with_decoration(decoration: TextDecoration) -> Sheet {
-    with_span(TextSpan {
-        decoration,
-        ..Sheet::good().spans[1]
-    })
+    change: F,
+) -> Result<(), Fail>
+    requires { F.IsAlwaysCallable change }
+{
+    let sheet = Sheet::changed(change);
+    says(
+        rt,
+        check_gradient(&sheet.drawing(), 0),
+        rule,
+        attribute,
+        None,
+    )
 }
 
 // ---- groups
 
 #[test]
 fn good(rt: HostRuntime) -> Result<(), Fail> {
-    accepted(&Sheet::good())?;
+    accepted(|_| ())?;
     assert!(rt; check_gradient(&Sheet::good().drawing(), 0).is_ok());
     Ok(())
 }
 
 #[test]
 fn groups(rt: HostRuntime) -> Result<(), Fail> {
-    let group = Sheet::good().groups[0];
-    refused(
-        &rt,
-        &with_group(Group {
-            id: SPACED_ID,
-            ..group
-        }),
-        4,
-        b"id",
-        0,
-    )?;
-    refused(
-        &rt,
-        &with_group(Group {
-            transform: Transform {
-                ky: TOO_LARGE,
-                ..group.transform
-            },
-            ..group
-        }),
-        6,
-        b"transform",
-        0,
-    )?;
-    refused(
-        &rt,
-        &with_group(Group {
-            opacity: 1.0000001,
-            ..group
-        }),
-        6,
-        b"opacity",
-        0,
-    )?;
-    refused(
-        &rt,
-        &with_group(Group {
-            clip_path: Some(NOTHING),
-            ..group
-        }),
-        4,
-        b"clip-path",
-        0,
-    )?;
-    refused(
-        &rt,
-        &with_group(Group {
-            mask: Some(SPACED_ID),
-            ..group
-        }),
-        4,
-        b"mask",
-        0,
-    )?;
-    refused(
-        &rt,
-        &Sheet {
-            references: [REFERENCE, NOTHING],
-            ..Sheet::good()
-        },
-        4,
-        b"filter",
-        0,
-    )?;
-    accepted(&with_group(Group {
-        id: NOTHING,
-        clip_path: None,
-        mask: None,
-        opacity: -0.0,
-        filters: NOTHING,
-        ..group
-    }))
+    refused(&rt, 4, b"id", 0, |sheet| sheet.groups[0].id = SPACED_ID)?;
+    refused(&rt, 6, b"transform", 0, |sheet| {
+        sheet.groups[0].transform.ky = TOO_LARGE;
+    })?;
+    refused(&rt, 6, b"opacity", 0, |sheet| {
+        sheet.groups[0].opacity = 1.0000001;
+    })?;
+    refused(&rt, 4, b"clip-path", 0, |sheet| {
+        sheet.groups[0].clip_path = Some(NOTHING);
+    })?;
+    refused(&rt, 4, b"mask", 0, |sheet| {
+        sheet.groups[0].mask = Some(SPACED_ID);
+    })?;
+    refused(&rt, 4, b"filter", 0, |sheet| {
+        sheet.references = [REFERENCE, NOTHING];
+    })?;
+    accepted(|sheet| {
+        sheet.groups[0].id = NOTHING;
+        sheet.groups[0].clip_path = None;
+        sheet.groups[0].mask = None;
+        sheet.groups[0].opacity = -0.0;
+        sheet.groups[0].filters = NOTHING;
+    })
 }
 
 #[test]
 fn ids(rt: HostRuntime) -> Result<(), Fail> {
-    let group = Sheet::good().groups[0];
-    accepted(&with_group(Group {
-        id: ID_OF_64,
-        ..group
-    }))?;
-    refused(
-        &rt,
-        &with_group(Group {
-            id: ID_OF_65,
-            ..group
-        }),
-        4,
-        b"id",
-        0,
-    )?;
-    accepted(&with_group(Group {
-        mask: Some(ID_OF_64),
-        ..group
-    }))?;
-    refused(
-        &rt,
-        &with_group(Group {
-            mask: Some(ID_OF_65),
-            ..group
-        }),
-        4,
-        b"mask",
-        0,
-    )
+    accepted(|sheet| sheet.groups[0].id = ID_OF_64)?;
+    refused(&rt, 4, b"id", 0, |sheet| sheet.groups[0].id = ID_OF_65)?;
+    accepted(|sheet| sheet.groups[0].mask = Some(ID_OF_64))?;
+    refused(&rt, 4, b"mask", 0, |sheet| {
+        sheet.groups[0].mask = Some(ID_OF_65);
+    })
 }
 
 #[test]
 fn transforms(rt: HostRuntime) -> Result<(), Fail> {
-    let group = Sheet::good().groups[0];
-    let same = group.transform;
-    refused(
-        &rt,
-        &with_group(Group {
-            transform: Transform {
-                sx: TOO_LARGE,
-                ..same
-            },
-            ..group
-        }),
-        6,
-        b"transform",
-        0,
-    )?;
-    refused(
-        &rt,
-        &with_group(Group {
-            transform: Transform {
-                kx: -TOO_LARGE,
-                ..same
-            },
-            ..group
-        }),
-        6,
-        b"transform",
-        0,
-    )?;
-    refused(
-        &rt,
-        &with_group(Group {
-            transform: Transform {
-                sy: TOO_LARGE,
-                ..same
-            },
-            ..group
-        }),
-        6,
-        b"transform",
-        0,
-    )?;
-    refused(
-        &rt,
-        &with_group(Group {
-            transform: Transform {
-                tx: TOO_LARGE,
-                ..same
-            },
-            ..group
-        }),
-        6,
-        b"transform",
-        0,
-    )?;
-    refused(
-        &rt,
-        &with_group(Group {
-            transform: Transform {
-                ty: TOO_LARGE,
-                ..same
-            },
-            ..group
-        }),
-        6,
-        b"transform",
-        0,
-    )?;
-    accepted(&with_group(Group {
-        transform: Transform {
-            tx: 1099511627776.0,
-            ty: TOO_SMALL,
-            ..same
-        },
-        ..group
-    }))
+    refused(&rt, 6, b"transform", 0, |sheet| {
+        sheet.groups[0].transform.sx = TOO_LARGE;
+    })?;
+    refused(&rt, 6, b"transform", 0, |sheet| {
+        sheet.groups[0].transform.kx = -TOO_LARGE;
+    })?;
+    refused(&rt, 6, b"transform", 0, |sheet| {
+        sheet.groups[0].transform.sy = TOO_LARGE;
+    })?;
+    refused(&rt, 6, b"transform", 0, |sheet| {
+        sheet.groups[0].transform.tx = TOO_LARGE;
+    })?;
+    refused(&rt, 6, b"transform", 0, |sheet| {
+        sheet.groups[0].transform.ty = TOO_LARGE;
+    })?;
+    accepted(|sheet| {
+        sheet.groups[0].transform.tx = 1099511627776.0;
+        sheet.groups[0].transform.ty = TOO_SMALL;
+    })
 }
 
 // ---- paths
 
 #[test]
 fn fills(rt: HostRuntime) -> Result<(), Fail> {
-    refused(
-        &rt,
-        &with_fill(Fill {
+    refused(&rt, 4, b"fill", 1, |sheet| {
+        sheet.paths[0].fill = Some(Fill {
             paint: Paint::LinearGradient(NOTHING),
             ..fill()
-        }),
-        4,
-        b"fill",
-        1,
-    )?;
-    refused(
-        &rt,
-        &with_fill(Fill {
+        });
+    })?;
+    refused(&rt, 4, b"fill", 1, |sheet| {
+        sheet.paths[0].fill = Some(Fill {
             paint: Paint::RadialGradient(SPACED_ID),
             ..fill()
-        }),
-        4,
-        b"fill",
-        1,
-    )?;
-    refused(
-        &rt,
-        &with_fill(Fill {
+        });
+    })?;
+    refused(&rt, 4, b"fill", 1, |sheet| {
+        sheet.paths[0].fill = Some(Fill {
             paint: Paint::Pattern(ID_OF_65),
             ..fill()
-        }),
-        4,
-        b"fill",
-        1,
-    )?;
-    refused(
-        &rt,
-        &with_fill(Fill {
+        });
+    })?;
+    refused(&rt, 6, b"fill-opacity", 1, |sheet| {
+        sheet.paths[0].fill = Some(Fill {
             opacity: -0.1,
             ..fill()
-        }),
-        6,
-        b"fill-opacity",
-        1,
-    )?;
-    refused(
-        &rt,
-        &with_fill(Fill {
+        });
+    })?;
+    refused(&rt, 6, b"fill-opacity", 1, |sheet| {
+        sheet.paths[0].fill = Some(Fill {
             opacity: TOO_SMALL,
             ..fill()
-        }),
-        6,
-        b"fill-opacity",
-        1,
-    )?;
-    accepted(&with_fill(Fill {
-        opacity: 1e-8,
-        ..fill()
-    }))
+        });
+    })?;
+    accepted(|sheet| {
+        sheet.paths[0].fill = Some(Fill {
+            opacity: 1e-8,
+            ..fill()
+        });
+    })
 }
 
 #[test]
 fn strokes(rt: HostRuntime) -> Result<(), Fail> {
-    refused(
-        &rt,
-        &with_stroke(Stroke {
+    refused(&rt, 4, b"stroke", 1, |sheet| {
+        sheet.paths[0].stroke = Some(Stroke {
             paint: Paint::Pattern(NOTHING),
             ..stroke()
-        }),
-        4,
-        b"stroke",
-        1,
-    )?;
-    refused(
-        &rt,
-        &with_stroke(Stroke {
+        });
+    })?;
+    refused(&rt, 5, b"stroke-dasharray", 1, |sheet| {
+        sheet.paths[0].stroke = Some(Stroke {
             dasharray: Some(place(0, 0)),
             ..stroke()
-        }),
-        5,
-        b"stroke-dasharray",
-        1,
-    )?;
-    refused(
-        &rt,
-        &with_stroke(Stroke {
+        });
+    })?;
+    refused(&rt, 6, b"stroke-dasharray", 1, |sheet| {
+        sheet.paths[0].stroke = Some(Stroke {
             dasharray: Some(place(2, 2)),
             ..stroke()
-        }),
-        6,
-        b"stroke-dasharray",
-        1,
-    )?;
-    refused(
-        &rt,
-        &with_stroke(Stroke {
+        });
+    })?;
+    refused(&rt, 6, b"stroke-dashoffset", 1, |sheet| {
+        sheet.paths[0].stroke = Some(Stroke {
             dashoffset: TOO_LARGE,
             ..stroke()
-        }),
-        6,
-        b"stroke-dashoffset",
-        1,
-    )?;
-    refused(
-        &rt,
-        &with_stroke(Stroke {
+        });
+    })?;
+    refused(&rt, 6, b"stroke-miterlimit", 1, |sheet| {
+        sheet.paths[0].stroke = Some(Stroke {
             miterlimit: 0.99999994,
             ..stroke()
-        }),
-        6,
-        b"stroke-miterlimit",
-        1,
-    )?;
-    refused(
-        &rt,
-        &with_stroke(Stroke {
+        });
+    })?;
+    refused(&rt, 6, b"stroke-opacity", 1, |sheet| {
+        sheet.paths[0].stroke = Some(Stroke {
             opacity: 2.0,
             ..stroke()
-        }),
-        6,
-        b"stroke-opacity",
-        1,
-    )?;
-    refused(
-        &rt,
-        &with_stroke(Stroke {
+        });
+    })?;
+    refused(&rt, 6, b"stroke-width", 1, |sheet| {
+        sheet.paths[0].stroke = Some(Stroke {
             width: 0.0,
             ..stroke()
-        }),
-        6,
-        b"stroke-width",
-        1,
-    )?;
-    accepted(&with_stroke(Stroke {
-        dasharray: None,
-        miterlimit: 1.0,
-        dashoffset: -0.0,
-        ..stroke()
-    }))
+        });
+    })?;
+    accepted(|sheet| {
+        sheet.paths[0].stroke = Some(Stroke {
+            dasharray: None,
+            miterlimit: 1.0,
+            dashoffset: -0.0,
+            ..stroke()
+        });
+    })
 }
 
 #[test]
 fn paths(rt: HostRuntime) -> Result<(), Fail> {
-    let path = Sheet::good().paths[0];
-    refused(
-        &rt,
-        &with_path(Path {
-            id: SPACED_ID,
-            ..path
-        }),
-        4,
-        b"id",
-        1,
-    )?;
-    refused(
-        &rt,
-        &with_path(Path {
-            data: place(0, 0),
-            ..path
-        }),
-        5,
-        b"d",
-        1,
-    )?;
-    refused(
-        &rt,
-        &with_path(Path {
-            data: place(1, 3),
-            ..path
-        }),
-        5,
-        b"d",
-        1,
-    )?;
-    refused(
-        &rt,
-        &with_path(Path {
-            data: place(4, 2),
-            ..path
-        }),
-        5,
-        b"d",
-        1,
-    )?;
-    accepted(&with_path(Path {
-        fill: None,
-        stroke: None,
-        data: place(0, 1),
-        ..path
-    }))
+    refused(&rt, 4, b"id", 1, |sheet| sheet.paths[0].id = SPACED_ID)?;
+    refused(&rt, 5, b"d", 1, |sheet| sheet.paths[0].data = place(0, 0))?;
+    refused(&rt, 5, b"d", 1, |sheet| sheet.paths[0].data = place(1, 3))?;
+    refused(&rt, 5, b"d", 1, |sheet| sheet.paths[0].data = place(4, 2))?;
+    accepted(|sheet| {
+        sheet.paths[0].fill = None;
+        sheet.paths[0].stroke = None;
+        sheet.paths[0].data = place(0, 1);
+    })
 }
 
 #[test]
@@ -552,433 +269,195 @@ fn segments(rt: HostRuntime) -> Result<(), Fail> {
     let right = point(TOO_LARGE, 1.0);
     let down = point(1.0, TOO_LARGE);
     let zero = 0.0;
-    refused(&rt, &with_segment(PathSegment::MoveTo(right)), 6, b"d", 1)?;
-    refused(&rt, &with_segment(PathSegment::LineTo(down)), 6, b"d", 1)?;
-    refused(
-        &rt,
-        &with_segment(PathSegment::QuadTo(right, good)),
-        6,
-        b"d",
-        1,
-    )?;
-    refused(
-        &rt,
-        &with_segment(PathSegment::QuadTo(good, down)),
-        6,
-        b"d",
-        1,
-    )?;
-    refused(
-        &rt,
-        &with_segment(PathSegment::CubicTo(down, good, good)),
-        6,
-        b"d",
-        1,
-    )?;
-    refused(
-        &rt,
-        &with_segment(PathSegment::CubicTo(good, right, good)),
-        6,
-        b"d",
-        1,
-    )?;
-    refused(
-        &rt,
-        &with_segment(PathSegment::CubicTo(good, good, down)),
-        6,
-        b"d",
-        1,
-    )?;
-    refused(
-        &rt,
-        &with_segment(PathSegment::LineTo(point(zero / zero, 0.0))),
-        6,
-        b"d",
-        1,
-    )?;
-    refused(
-        &rt,
-        &with_segment(PathSegment::LineTo(point(0.0, -1.0 / zero))),
-        6,
-        b"d",
-        1,
-    )?;
-    accepted(&with_segment(PathSegment::LineTo(point(TOO_SMALL, -1099511627776.0))))
+    refused(&rt, 6, b"d", 1, |sheet| {
+        sheet.set_segments(PathSegment::MoveTo(right));
+    })?;
+    refused(&rt, 6, b"d", 1, |sheet| {
+        sheet.set_segments(PathSegment::LineTo(down));
+    })?;
+    refused(&rt, 6, b"d", 1, |sheet| {
+        sheet.set_segments(PathSegment::QuadTo(right, good));
+    })?;
+    refused(&rt, 6, b"d", 1, |sheet| {
+        sheet.set_segments(PathSegment::QuadTo(good, down));
+    })?;
+    refused(&rt, 6, b"d", 1, |sheet| {
+        sheet.set_segments(PathSegment::CubicTo(down, good, good));
+    })?;
+    refused(&rt, 6, b"d", 1, |sheet| {
+        sheet.set_segments(PathSegment::CubicTo(good, right, good));
+    })?;
+    refused(&rt, 6, b"d", 1, |sheet| {
+        sheet.set_segments(PathSegment::CubicTo(good, good, down));
+    })?;
+    refused(&rt, 6, b"d", 1, |sheet| {
+        sheet.set_segments(PathSegment::LineTo(point(zero / zero, 0.0)));
+    })?;
+    refused(&rt, 6, b"d", 1, |sheet| {
+        sheet.set_segments(PathSegment::LineTo(point(0.0, -1.0 / zero)));
+    })?;
+    accepted(|sheet| {
+        sheet.set_segments(PathSegment::LineTo(point(TOO_SMALL, -1099511627776.0)));
+    })
 }
 
 // ---- images
 
 #[test]
 fn images(rt: HostRuntime) -> Result<(), Fail> {
-    let image = Sheet::good().images[0];
-    refused(
-        &rt,
-        &with_image(Image {
-            id: SPACED_ID,
-            ..image
-        }),
-        4,
-        b"id",
-        2,
-    )?;
-    refused(
-        &rt,
-        &with_image(Image {
-            width: 0.0,
-            ..image
-        }),
-        6,
-        b"width",
-        2,
-    )?;
-    refused(
-        &rt,
-        &with_image(Image {
-            height: -0.0,
-            ..image
-        }),
-        6,
-        b"height",
-        2,
-    )?;
-    refused(
-        &rt,
-        &with_image(Image {
-            payload: OVERLONG,
-            ..image
-        }),
-        7,
-        b"xlink:href",
-        2,
-    )?;
-    refused(
-        &rt,
-        &with_image(Image {
-            payload: SURROGATE,
-            ..image
-        }),
-        7,
-        b"xlink:href",
-        2,
-    )?;
-    refused(
-        &rt,
-        &with_image(Image {
-            payload: NONCHARACTER,
-            ..image
-        }),
-        7,
-        b"xlink:href",
-        2,
-    )?;
-    refused(
-        &rt,
-        &with_image(Image {
-            payload: CONTROL,
-            ..image
-        }),
-        7,
-        b"xlink:href",
-        2,
-    )?;
-    refused(
-        &rt,
-        &with_image(Image {
-            payload: CUT_OFF,
-            ..image
-        }),
-        7,
-        b"xlink:href",
-        2,
-    )?;
-    accepted(&with_image(Image {
-        payload: NOTHING,
-        ..image
-    }))
+    refused(&rt, 4, b"id", 2, |sheet| sheet.images[0].id = SPACED_ID)?;
+    refused(&rt, 6, b"width", 2, |sheet| sheet.images[0].width = 0.0)?;
+    refused(&rt, 6, b"height", 2, |sheet| sheet.images[0].height = -0.0)?;
+    refused(&rt, 7, b"xlink:href", 2, |sheet| {
+        sheet.images[0].payload = OVERLONG;
+    })?;
+    refused(&rt, 7, b"xlink:href", 2, |sheet| {
+        sheet.images[0].payload = SURROGATE;
+    })?;
+    refused(&rt, 7, b"xlink:href", 2, |sheet| {
+        sheet.images[0].payload = NONCHARACTER;
+    })?;
+    refused(&rt, 7, b"xlink:href", 2, |sheet| {
+        sheet.images[0].payload = CONTROL;
+    })?;
+    refused(&rt, 7, b"xlink:href", 2, |sheet| {
+        sheet.images[0].payload = CUT_OFF;
+    })?;
+    accepted(|sheet| sheet.images[0].payload = NOTHING)
 }
 
 // ---- texts
 
+// A number that no attribute takes, and no stroke that names it.
+fn put_small_number(sheet: &mut Sheet) {
+    sheet.numbers = [TOO_SMALL, 1.0, 2.0, 3.0, 4.0, 5.0];
+    sheet.paths[0].stroke = None;
+    sheet.paths[1].stroke = None;
+}
+
 #[test]
 fn texts(rt: HostRuntime) -> Result<(), Fail> {
-    let good = Sheet::good();
-    let text = good.texts[0];
-    let numbers = [TOO_SMALL, 1.0, 2.0, 3.0, 4.0, 5.0];
-    refused(
-        &rt,
-        &with_text(Text {
-            id: SPACED_ID,
-            ..text
-        }),
-        4,
-        b"id",
-        3,
-    )?;
-    let sheet = Sheet {
-        paths: [
-            Path {
-                stroke: None,
-                ..good.paths[0]
-            },
-            Path {
-                stroke: None,
-                ..good.paths[1]
-            },
-        ],
-        ..good
-    };
-    let sheet = Sheet { numbers, ..sheet };
-    refused(
-        &rt,
-        &Sheet {
-            texts: [Text {
-                dx: place(0, 1),
-                ..text
-            }],
-            ..sheet
-        },
-        6,
-        b"dx",
-        3,
-    )?;
-    refused(
-        &rt,
-        &Sheet {
-            texts: [Text {
-                dy: place(0, 1),
-                ..text
-            }],
-            ..sheet
-        },
-        6,
-        b"dy",
-        3,
-    )?;
-    refused(
-        &rt,
-        &Sheet {
-            texts: [Text {
-                rotate: place(0, 1),
-                ..text
-            }],
-            ..sheet
-        },
-        6,
-        b"rotate",
-        3,
-    )?;
-    accepted(&with_text(Text {
-        dx: NOTHING,
-        dy: NOTHING,
-        rotate: NOTHING,
-        chunks: NOTHING,
-        ..text
-    }))
+    refused(&rt, 4, b"id", 3, |sheet| sheet.texts[0].id = SPACED_ID)?;
+    refused(&rt, 6, b"dx", 3, |sheet| {
+        put_small_number(sheet);
+        sheet.texts[0].dx = place(0, 1);
+    })?;
+    refused(&rt, 6, b"dy", 3, |sheet| {
+        put_small_number(sheet);
+        sheet.texts[0].dy = place(0, 1);
+    })?;
+    refused(&rt, 6, b"rotate", 3, |sheet| {
+        put_small_number(sheet);
+        sheet.texts[0].rotate = place(0, 1);
+    })?;
+    accepted(|sheet| {
+        sheet.texts[0].dx = NOTHING;
+        sheet.texts[0].dy = NOTHING;
+        sheet.texts[0].rotate = NOTHING;
+        sheet.texts[0].chunks = NOTHING;
+    })
 }
 
 #[test]
 fn chunks(rt: HostRuntime) -> Result<(), Fail> {
-    let chunk = Sheet::good().chunks[1];
     let far = TextFlow::Path(TextPath {
         id: REFERENCE,
         start_offset: TOO_LARGE,
     });
-    refused(
-        &rt,
-        &with_chunk(TextChunk {
-            x: Some(TOO_LARGE),
-            ..chunk
-        }),
-        6,
-        b"x",
-        3,
-    )?;
-    refused(
-        &rt,
-        &with_chunk(TextChunk {
-            y: Some(TOO_SMALL),
-            ..chunk
-        }),
-        6,
-        b"y",
-        3,
-    )?;
-    refused(
-        &rt,
-        &with_chunk(TextChunk {
-            text_flow: TextFlow::Path(TextPath {
-                id: NOTHING,
-                start_offset: 0.0,
-            }),
-            ..chunk
-        }),
-        4,
-        b"xlink:href",
-        3,
-    )?;
-    refused(
-        &rt,
-        &with_chunk(TextChunk {
-            text_flow: far,
-            ..chunk
-        }),
-        6,
-        b"startOffset",
-        3,
-    )?;
-    refused(
-        &rt,
-        &with_chunk(TextChunk {
-            spans: NOTHING,
-            text: CONTROL,
-            ..chunk
-        }),
-        7,
-        b"",
-        3,
-    )?;
-    refused(
-        &rt,
-        &with_chunk(TextChunk {
-            text: NOTHING,
-            ..chunk
-        }),
-        7,
-        b"",
-        3,
-    )?;
-    accepted(&with_chunk(TextChunk {
-        x: None,
-        y: None,
-        spans: NOTHING,
-        text_flow: TextFlow::Linear,
-        text: NOTHING,
-        ..chunk
-    }))
+    refused(&rt, 6, b"x", 3, |sheet| sheet.chunks[1].x = Some(TOO_LARGE))?;
+    refused(&rt, 6, b"y", 3, |sheet| sheet.chunks[1].y = Some(TOO_SMALL))?;
+    refused(&rt, 4, b"xlink:href", 3, |sheet| {
+        sheet.chunks[1].text_flow = TextFlow::Path(TextPath::default());
+    })?;
+    refused(&rt, 6, b"startOffset", 3, |sheet| {
+        sheet.chunks[1].text_flow = far;
+    })?;
+    refused(&rt, 7, b"", 3, |sheet| {
+        sheet.chunks[1].spans = NOTHING;
+        sheet.chunks[1].text = CONTROL;
+    })?;
+    refused(&rt, 7, b"", 3, |sheet| sheet.chunks[1].text = NOTHING)?;
+    accepted(|sheet| {
+        sheet.chunks[1].x = None;
+        sheet.chunks[1].y = None;
+        sheet.chunks[1].spans = NOTHING;
+        sheet.chunks[1].text_flow = TextFlow::Linear;
+        sheet.chunks[1].text = NOTHING;
+    })
 }
 
 #[test]
 fn spans(rt: HostRuntime) -> Result<(), Fail> {
-    let span = Sheet::good().spans[1];
-    refused(&rt, &with_span(TextSpan { start: 2, ..span }), 7, b"", 3)?;
-    refused(&rt, &with_span(TextSpan { end: 2, ..span }), 7, b"", 3)?;
-    refused(&rt, &with_span(TextSpan { end: 5, ..span }), 7, b"", 3)?;
-    refused(
-        &rt,
-        &with_span(TextSpan {
-            start: 3,
-            end: 1,
-            ..span
-        }),
-        7,
-        b"",
-        3,
-    )?;
-    accepted(&with_span(TextSpan {
-        start: 4,
-        end: 4,
-        ..span
-    }))?;
-    refused(
-        &rt,
-        &with_span(TextSpan {
-            fill: Some(Fill {
-                opacity: 2.0,
-                ..fill()
-            }),
-            ..span
-        }),
-        6,
-        b"fill-opacity",
-        3,
-    )?;
-    refused(
-        &rt,
-        &with_span(TextSpan {
-            stroke: Some(Stroke {
-                width: -1.0,
-                ..stroke()
-            }),
-            ..span
-        }),
-        6,
-        b"stroke-width",
-        3,
-    )?;
-    refused(
-        &rt,
-        &with_span(TextSpan {
-            font_size: 0.0,
-            ..span
-        }),
-        6,
-        b"font-size",
-        3,
-    )?;
-    refused(
-        &rt,
-        &with_span(TextSpan {
-            letter_spacing: TOO_LARGE,
-            ..span
-        }),
-        6,
-        b"letter-spacing",
-        3,
-    )?;
-    refused(
-        &rt,
-        &with_span(TextSpan {
-            word_spacing: TOO_SMALL,
-            ..span
-        }),
-        6,
-        b"word-spacing",
-        3,
-    )?;
-    refused(
-        &rt,
-        &with_span(TextSpan {
-            text_length: Some(-1.0),
-            ..span
-        }),
-        6,
-        b"textLength",
-        3,
-    )?;
-    accepted(&with_span(TextSpan {
-        text_length: Some(-0.0),
-        ..span
-    }))
+    refused(&rt, 7, b"", 3, |sheet| sheet.spans[1].start = 2)?;
+    refused(&rt, 7, b"", 3, |sheet| sheet.spans[1].end = 2)?;
+    refused(&rt, 7, b"", 3, |sheet| sheet.spans[1].end = 5)?;
+    refused(&rt, 7, b"", 3, |sheet| {
+        sheet.spans[1].start = 3;
+        sheet.spans[1].end = 1;
+    })?;
+    accepted(|sheet| {
+        sheet.spans[1].start = 4;
+        sheet.spans[1].end = 4;
+    })?;
+    refused(&rt, 6, b"fill-opacity", 3, |sheet| {
+        sheet.spans[1].fill = Some(Fill {
+            opacity: 2.0,
+            ..fill()
+        });
+    })?;
+    refused(&rt, 6, b"stroke-width", 3, |sheet| {
+        sheet.spans[1].stroke = Some(Stroke {
+            width: -1.0,
+            ..stroke()
+        });
+    })?;
+    refused(&rt, 6, b"font-size", 3, |sheet| {
+        sheet.spans[1].font_size = 0.0;
+    })?;
+    refused(&rt, 6, b"letter-spacing", 3, |sheet| {
+        sheet.spans[1].letter_spacing = TOO_LARGE;
+    })?;
+    refused(&rt, 6, b"word-spacing", 3, |sheet| {
+        sheet.spans[1].word_spacing = TOO_SMALL;
+    })?;
+    refused(&rt, 6, b"textLength", 3, |sheet| {
+        sheet.spans[1].text_length = Some(-1.0);
+    })?;
+    accepted(|sheet| sheet.spans[1].text_length = Some(-0.0))
 }
 
 #[test]
 fn families(rt: HostRuntime) -> Result<(), Fail> {
-    refused(&rt, &with_family(NOTHING), 5, b"font-family", 3)?;
-    refused(&rt, &with_family(CONTROL), 7, b"font-family", 3)?;
-    refused(&rt, &with_family(QUOTED), 8, b"font-family", 3)?;
-    accepted(&with_family(TEXT))
+    refused(&rt, 5, b"font-family", 3, |sheet| {
+        sheet.families = [FontFamily::Monospace, FontFamily::Named(NOTHING)];
+    })?;
+    refused(&rt, 7, b"font-family", 3, |sheet| {
+        sheet.families = [FontFamily::Monospace, FontFamily::Named(CONTROL)];
+    })?;
+    refused(&rt, 8, b"font-family", 3, |sheet| {
+        sheet.families = [FontFamily::Monospace, FontFamily::Named(QUOTED)];
+    })?;
+    accepted(|sheet| {
+        sheet.families = [FontFamily::Monospace, FontFamily::Named(TEXT)];
+    })
 }
 
 #[test]
 fn decorations(rt: HostRuntime) -> Result<(), Fail> {
-    let none = TextDecoration {
-        underline: None,
-        overline: None,
-        line_through: None,
-    };
+    let none = TextDecoration::default();
     let paint = TextDecorationStyle {
         fill: Some(Fill {
             paint: Paint::Pattern(NOTHING),
             ..fill()
         }),
-        stroke: None,
+        ..TextDecorationStyle::default()
     };
     let dash = TextDecorationStyle {
-        fill: None,
         stroke: Some(Stroke {
             dasharray: Some(NOTHING),
             ..stroke()
         }),
+        ..TextDecorationStyle::default()
     };
     let width = TextDecorationStyle {
         fill: Some(fill()),
@@ -987,139 +466,50 @@ fn decorations(rt: HostRuntime) -> Result<(), Fail> {
             ..stroke()
         }),
     };
-    refused(
-        &rt,
-        &with_decoration(TextDecoration {
+    refused(&rt, 4, b"fill", 3, |sheet| {
+        sheet.spans[1].decoration = TextDecoration {
             underline: Some(paint),
             ..none
-        }),
-        4,
-        b"fill",
-        3,
-    )?;
-    refused(
-        &rt,
-        &with_decoration(TextDecoration {
+        };
+    })?;
+    refused(&rt, 5, b"stroke-dasharray", 3, |sheet| {
+        sheet.spans[1].decoration = TextDecoration {
             overline: Some(dash),
             ..none
-        }),
-        5,
-        b"stroke-dasharray",
-        3,
-    )?;
-    refused(
-        &rt,
-        &with_decoration(TextDecoration {
+        };
+    })?;
+    refused(&rt, 6, b"stroke-width", 3, |sheet| {
+        sheet.spans[1].decoration = TextDecoration {
             line_through: Some(width),
             ..none
-        }),
-        6,
-        b"stroke-width",
-        3,
-    )?;
-    refused(
-        &rt,
-        &Sheet {
-            shifts: [BaselineShift::Baseline, BaselineShift::Number(TOO_LARGE)],
-            ..Sheet::good()
-        },
-        6,
-        b"baseline-shift",
-        3,
-    )?;
-    accepted(&with_span(TextSpan {
-        decoration: none,
-        font: Font {
-            families: NOTHING,
-            ..Sheet::good().spans[1].font
-        },
-        ..Sheet::good().spans[1]
-    }))
+        };
+    })?;
+    refused(&rt, 6, b"baseline-shift", 3, |sheet| {
+        sheet.shifts = [BaselineShift::Baseline, BaselineShift::Number(TOO_LARGE)];
+    })?;
+    accepted(|sheet| {
+        sheet.spans[1].decoration = none;
+        sheet.spans[1].font.families = NOTHING;
+    })
 }
 
 // ---- gradients
 
 #[test]
 fn gradients(rt: HostRuntime) -> Result<(), Fail> {
-    let good = Sheet::good();
-    let gradient = good.gradients[0];
-    let stop = good.stops[1];
-    let far = Transform {
-        tx: TOO_LARGE,
-        ..gradient.transform
-    };
-    gradient_refused(
-        &rt,
-        &Sheet {
-            gradients: [BaseGradient {
-                transform: far,
-                ..gradient
-            }],
-            ..good
-        },
-        6,
-        b"gradientTransform",
-    )?;
-    gradient_refused(
-        &rt,
-        &Sheet {
-            stops: [
-                good.stops[0],
-                Stop {
-                    offset: 1.5,
-                    ..stop
-                },
-            ],
-            ..good
-        },
-        6,
-        b"offset",
-    )?;
-    gradient_refused(
-        &rt,
-        &Sheet {
-            stops: [
-                good.stops[0],
-                Stop {
-                    opacity: -1.0,
-                    ..stop
-                },
-            ],
-            ..good
-        },
-        6,
-        b"stop-opacity",
-    )?;
-    gradient_refused(
-        &rt,
-        &Sheet {
-            stops: [
-                Stop {
-                    opacity: 2.0,
-                    ..stop
-                },
-                Stop {
-                    offset: 2.0,
-                    ..stop
-                },
-            ],
-            ..good
-        },
-        6,
-        b"stop-opacity",
-    )?;
-    gradient_refused(
-        &rt,
-        &Sheet {
-            gradients: [BaseGradient {
-                stops: place(1, 2),
-                ..gradient
-            }],
-            ..good
-        },
-        3,
-        b"",
-    )?;
-    assert!(rt; check_gradient(&good.drawing(), 1).is_err());
+    gradient_refused(&rt, 6, b"gradientTransform", |sheet| {
+        sheet.gradients[0].transform.tx = TOO_LARGE;
+    })?;
+    gradient_refused(&rt, 6, b"offset", |sheet| sheet.stops[1].offset = 1.5)?;
+    gradient_refused(&rt, 6, b"stop-opacity", |sheet| {
+        sheet.stops[1].opacity = -1.0;
+    })?;
+    gradient_refused(&rt, 6, b"stop-opacity", |sheet| {
+        sheet.stops[0].offset = 1.0;
+        sheet.stops[0].opacity = 2.0;
+        sheet.stops[1].offset = 2.0;
+    })?;
+    gradient_refused(&rt, 3, b"", |sheet| sheet.gradients[0].stops = place(1, 2))?;
+    assert!(rt; check_gradient(&Sheet::good().drawing(), 1).is_err());
     Ok(())
 }

@@ -9,15 +9,10 @@
 //! | 4 | group, the text's flattened one | 1 | 5 |
 //! | 5 | path | 1 | 6 |
 
-use drawing::keywords::{
-    AlignmentBaseline, BlendMode, DominantBaseline, FillRule, FontStretch, FontStyle,
-    ImageRendering, LengthAdjust, LineCap, LineJoin, PaintOrder, ShapeRendering, SpreadMethod,
-    TextAnchor, TextRendering, Units, WritingMode,
-};
 use drawing::rows::{
-    BaseGradient, BaselineShift, Color, Fill, Font, FontFamily, Group, Image, Paint, Path,
-    PathSegment, Place, Point, Stop, Stroke, Text, TextChunk, TextDecoration, TextDecorationStyle,
-    TextFlow, TextPath, TextSpan, Transform,
+    BaseGradient, BaselineShift, Fill, Font, FontFamily, Group, Image, Paint, Path, PathSegment,
+    Place, Point, Stop, Stroke, Text, TextChunk, TextDecoration, TextDecorationStyle, TextFlow,
+    TextPath, TextSpan,
 };
 use drawing::tables::{Drawing, Kind, Node};
 
@@ -116,7 +111,7 @@ pub fn fill() -> Fill {
     Fill {
         paint: Paint::LinearGradient(REFERENCE),
         opacity: 0.5,
-        rule: FillRule::NonZero,
+        ..Fill::default()
     }
 }
 
@@ -125,11 +120,8 @@ pub fn stroke() -> Stroke {
         paint: Paint::Pattern(REFERENCE),
         dasharray: Some(place(0, 2)),
         dashoffset: -0.5,
-        miterlimit: 4.0,
-        opacity: 1.0,
         width: 2.0,
-        linecap: LineCap::Butt,
-        linejoin: LineJoin::Miter,
+        ..Stroke::default()
     }
 }
 
@@ -143,48 +135,41 @@ pub fn style() -> TextDecorationStyle {
 fn group() -> Group {
     Group {
         id: ID,
-        transform: Transform::identity(),
-        opacity: 1.0,
-        blend_mode: BlendMode::Normal,
-        isolate: false,
         clip_path: Some(REFERENCE),
         mask: Some(REFERENCE),
         filters: place(0, 2),
+        ..Group::default()
     }
 }
 
 fn path() -> Path {
     Path {
         id: ID,
-        visible: true,
         fill: Some(fill()),
         stroke: Some(stroke()),
-        paint_order: PaintOrder::FillAndStroke,
-        rendering_mode: ShapeRendering::GeometricPrecision,
         data: place(0, 6),
+        ..Path::default()
     }
 }
 
 fn image() -> Image {
     Image {
         id: ID,
-        visible: true,
         width: 10.0,
         height: 20.0,
-        rendering_mode: ImageRendering::OptimizeQuality,
         payload: TEXT,
+        ..Image::default()
     }
 }
 
 fn text() -> Text {
     Text {
         id: ID,
-        rendering_mode: TextRendering::OptimizeLegibility,
         dx: place(2, 1),
         dy: place(3, 1),
         rotate: place(4, 1),
-        writing_mode: WritingMode::LeftToRight,
         chunks: place(0, 2),
+        ..Text::default()
     }
 }
 
@@ -192,13 +177,13 @@ fn chunk(start: usize) -> TextChunk {
     TextChunk {
         x: Some(5.0),
         y: Some(6.0),
-        anchor: TextAnchor::Start,
         spans: place(start, 1),
         text_flow: TextFlow::Path(TextPath {
             id: REFERENCE,
-            start_offset: 0.0,
+            ..TextPath::default()
         }),
         text: TEXT,
+        ..TextChunk::default()
     }
 }
 
@@ -208,29 +193,18 @@ fn span() -> TextSpan {
         end: 3,
         fill: Some(fill()),
         stroke: Some(stroke()),
-        paint_order: PaintOrder::FillAndStroke,
         font: Font {
             families: place(0, 2),
-            style: FontStyle::Normal,
-            stretch: FontStretch::Normal,
-            weight: 400,
+            ..Font::default()
         },
-        font_size: 12.0,
-        small_caps: false,
-        apply_kerning: true,
         decoration: TextDecoration {
             underline: Some(style()),
             overline: Some(style()),
             line_through: Some(style()),
         },
-        dominant_baseline: DominantBaseline::Auto,
-        alignment_baseline: AlignmentBaseline::Auto,
         baseline_shift: place(0, 2),
-        visible: true,
-        letter_spacing: 0.0,
-        word_spacing: 0.0,
         text_length: Some(100.0),
-        length_adjust: LengthAdjust::Spacing,
+        ..TextSpan::default()
     }
 }
 
@@ -245,17 +219,12 @@ fn segments() -> [PathSegment; 6] {
     ]
 }
 
-fn node(kind: Kind, row: usize, end: usize) -> Node {
+pub fn node(kind: Kind, row: usize, end: usize) -> Node {
     Node { kind, row, end }
 }
 
 impl Sheet {
     pub fn good() -> Sheet {
-        let black = Color {
-            red: 0,
-            green: 0,
-            blue: 0,
-        };
         Sheet {
             nodes: [
                 node(Kind::Group, 0, 6),
@@ -277,24 +246,39 @@ impl Sheet {
             families: [FontFamily::Serif, FontFamily::Named(FAMILY)],
             shifts: [BaselineShift::Subscript, BaselineShift::Number(-2.5)],
             gradients: [BaseGradient {
-                units: Units::ObjectBoundingBox,
-                transform: Transform::identity(),
-                spread_method: SpreadMethod::Pad,
                 stops: place(0, 2),
+                ..BaseGradient::default()
             }],
             stops: [
-                Stop {
-                    offset: 0.0,
-                    color: black,
-                    opacity: 1.0,
-                },
+                Stop::default(),
                 Stop {
                     offset: 1.0,
-                    color: black,
                     opacity: 0.0,
+                    ..Stop::default()
                 },
             ],
         }
+    }
+
+    /// The good drawing after a change.
+    pub fn changed<F: FnOnce(&mut Sheet)>(change: F) -> Sheet
+        requires { F.IsAlwaysCallable change }
+    {
+        let mut sheet = Sheet::good();
+        change(&mut sheet);
+        sheet
+    }
+
+    /// Every segment after the first.
+    pub fn set_segments(&mut self, segment: PathSegment) {
+        self.segments = [
+            self.segments[0],
+            segment,
+            segment,
+            segment,
+            segment,
+            segment,
+        ];
     }
 
     pub fn drawing(&self) -> Drawing<'_> {

@@ -1,6 +1,8 @@
 -- What each fault says: its number and word, and the attribute and node it was in, where there is one.
 use Rattle.std.specs.Prelude.{ℕ, List, Some, None, codes, Option}
 use Rattle.drawing.specs.declared.names.AId.{AId}
+use Rattle.drawing.specs.declared.faults.Rule.{Rule}
+use Rattle.drawing.specs.declared.faults.Rule.TheVariants as rule
 use Rattle.drawing.specs.declared.faults.ValueFault.{ValueFault}
 use Rattle.drawing.specs.declared.faults.ValueFault.TheVariants.{Place, Id, Empty, Number, Text, Family}
 use Rattle.drawing.specs.declared.faults.Found.{Found}
@@ -25,6 +27,28 @@ outside_nodes fault = Value (record { node = None; fault = fault })
 
 abbrev pub of_node : NodeFault → Fault
 of_node fault = Value fault
+
+abbrev pub rule_number : Rule → ℕ
+rule_number rule.Setting = 1
+rule_number rule.Moment = 2
+rule_number rule.Table = 3
+rule_number rule.Id = 4
+rule_number rule.Empty = 5
+rule_number rule.Number = 6
+rule_number rule.Text = 7
+rule_number rule.Family = 8
+rule_number rule.Full = 9
+
+abbrev pub rule_word : Rule → List ℕ
+rule_word rule.Setting = codes "setting"
+rule_word rule.Moment = codes "moment"
+rule_word rule.Table = codes "table"
+rule_word rule.Id = codes "id"
+rule_word rule.Empty = codes "empty"
+rule_word rule.Number = codes "number"
+rule_word rule.Text = codes "text"
+rule_word rule.Family = codes "family"
+rule_word rule.Full = codes "full"
 
 abbrev pub value_number : ValueFault → ℕ
 value_number Place = 3

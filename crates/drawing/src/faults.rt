@@ -5,12 +5,26 @@
 //! `Report` in `specs/` maps every fault to its number, word, attribute and node, and the questions below answer by it.
 
 ghost use Rattle.std.specs.Prelude.{◌≡◌};
-ghost use Rattle.drawing.specs.Faults.{report, value_number, value_word, in_attribute, outside_attributes, in_node, outside_nodes, of_node};
+ghost use Rattle.drawing.specs.Faults.{report, rule_number, rule_word, value_number, value_word, in_attribute, outside_attributes, in_node, outside_nodes, of_node};
 
 use crate::names::AId;
 
+/// A rule that a call can break.
+#[derive(Clone, Copy, Debug, PartialEq, Eq)]
+pub enum Rule {
+    Setting = 1,
+    Moment = 2,
+    Table = 3,
+    Id = 4,
+    Empty = 5,
+    Number = 6,
+    Text = 7,
+    Family = 8,
+    Full = 9,
+}
+
 /// An id against its rule.
-#[derive(Clone, Copy)]
+#[derive(Clone, Copy, Debug, PartialEq, Eq)]
 pub enum IdFault {
     Missing,
     TooLong,
@@ -18,7 +32,7 @@ pub enum IdFault {
 }
 
 /// A number against its rule.
-#[derive(Clone, Copy)]
+#[derive(Clone, Copy, Debug, PartialEq, Eq)]
 pub enum NumberFault {
     /// It has no text: too large, too small to be shown bare, or no number at all.
     OutsideDomain,
@@ -27,7 +41,7 @@ pub enum NumberFault {
 }
 
 /// The rule that a value breaks.
-#[derive(Clone, Copy)]
+#[derive(Clone, Copy, Debug, PartialEq, Eq)]
 pub enum ValueFault {
     /// A place that does not lie in its list, or has too many entries.
     Place,
@@ -39,26 +53,29 @@ pub enum ValueFault {
 }
 
 /// A fault with the place in which it was found.
-#[derive(Clone, Copy)]
+#[derive(Clone, Copy, Debug, PartialEq, Eq)]
 pub struct Found<P, F> {
     pub place: P,
     pub fault: F,
 }
 
-#[derive(Clone, Copy)]
+/// A fault of a value, and its attribute, if it stands in one.
+// Kept: a struct for each layer, since one generic in its place would lose the names `attribute` and `node`.
+#[derive(Clone, Copy, Debug, PartialEq, Eq)]
 pub struct AttributeFault {
     pub attribute: Option<AId>,
     pub fault: ValueFault,
 }
 
-#[derive(Clone, Copy)]
+/// A fault of an attribute, and its node, if it is in one.
+#[derive(Clone, Copy, Debug, PartialEq, Eq)]
 pub struct NodeFault {
     pub node: Option<usize>,
     pub fault: AttributeFault,
 }
 
 /// Why a call is refused.
-#[derive(Clone, Copy)]
+#[derive(Clone, Copy, Debug, PartialEq, Eq)]
 pub enum Fault {
     /// A precision above 8, or a prefix against its rule.
     Setting,
@@ -121,59 +138,76 @@ impl From<NodeFault> for Fault {
     }
 }
 
-impl ValueFault {
-    fn number(self) -> u8
-        ensures { result ≡ value_number self }
+impl Rule {
+    /// Its number, by which it is recorded.
+    pub fn number(self) -> u8
+        ensures { result ≡ rule_number self }
     {
-        match self {
-            ValueFault::Place => 3,
-            ValueFault::Id(_) => 4,
-            ValueFault::Empty => 5,
-            ValueFault::Number(_) => 6,
-            ValueFault::Text => 7,
-            ValueFault::Family => 8,
-        }
+        self as u8
     }
 
-    fn word(self) -> &'static [u8]
-        ensures { result.now ≡ value_word self }
+    /// Its word.
+    // Kept: the bytes and no Display, since a record and a plate are bytes.
+    pub fn word(self) -> &'static [u8]
+        ensures { result.now ≡ rule_word self }
     {
         match self {
-            ValueFault::Place => b"table",
-            ValueFault::Id(_) => b"id",
-            ValueFault::Empty => b"empty",
-            ValueFault::Number(_) => b"number",
-            ValueFault::Text => b"text",
-            ValueFault::Family => b"family",
+            Rule::Setting => b"setting",
+            Rule::Moment => b"moment",
+            Rule::Table => b"table",
+            Rule::Id => b"id",
+            Rule::Empty => b"empty",
+            Rule::Number => b"number",
+            Rule::Text => b"text",
+            Rule::Family => b"family",
+            Rule::Full => b"full",
+        }
+    }
+}
+
+impl ValueFault {
+    fn rule(self) -> Rule
+        ensures number { rule_number result ≡ value_number self }
+        ensures word { rule_word result ≡ value_word self }
+    {
+        match self {
+            ValueFault::Place => Rule::Table,
+            ValueFault::Id(_) => Rule::Id,
+            ValueFault::Empty => Rule::Empty,
+            ValueFault::Number(_) => Rule::Number,
+            ValueFault::Text => Rule::Text,
+            ValueFault::Family => Rule::Family,
         }
     }
 }
 
 impl Fault {
+    /// The rule broken.
+    pub fn rule(self) -> Rule
+        ensures number { rule_number result ≡ (report self).number }
+        ensures word { rule_word result ≡ (report self).word }
+    {
+        match self {
+            Fault::Setting => Rule::Setting,
+            Fault::Moment => Rule::Moment,
+            Fault::Table(_) => Rule::Table,
+            Fault::Value(found) => found.fault.fault.rule(),
+            Fault::Full => Rule::Full,
+        }
+    }
+
     /// The number of the rule broken.
     pub fn number(self) -> u8
         ensures { result ≡ (report self).number }
     {
-        match self {
-            Fault::Setting => 1,
-            Fault::Moment => 2,
-            Fault::Table(_) => 3,
-            Fault::Value(found) => found.fault.fault.number(),
-            Fault::Full => 9,
-        }
+        self.rule().number()
     }
 
     /// Its word.
     pub fn word(self) -> &'static [u8]
         ensures { result.now ≡ (report self).word }
     {
-        match self {
-            Fault::Setting => b"setting",
-            Fault::Moment => b"moment",
-            Fault::Table(_) => b"table",
-            Fault::Value(found) => found.fault.fault.word(),
-            Fault::Full => b"full",
-        }
+        self.rule().word()
     }
 
     /// The attribute it was in.

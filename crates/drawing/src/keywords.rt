@@ -1,34 +1,44 @@
 //! The keyword enums, with usvg's names and cases. A case cannot be wrong, so no check looks at them.
 
-#[derive(Clone, Copy)]
+/// Which of a fill and a stroke is painted first.
+#[derive(Clone, Copy, Debug, Default, PartialEq, Eq)]
 pub enum PaintOrder {
+    #[default]
     FillAndStroke,
     StrokeAndFill,
 }
 
-#[derive(Clone, Copy)]
+/// Which points a path encloses.
+#[derive(Clone, Copy, Debug, Default, PartialEq, Eq)]
 pub enum FillRule {
+    #[default]
     NonZero,
     EvenOdd,
 }
 
-#[derive(Clone, Copy)]
+/// How a stroke ends.
+#[derive(Clone, Copy, Debug, Default, PartialEq, Eq)]
 pub enum LineCap {
+    #[default]
     Butt,
     Round,
     Square,
 }
 
-#[derive(Clone, Copy)]
+/// How two segments of a stroke meet.
+#[derive(Clone, Copy, Debug, Default, PartialEq, Eq)]
 pub enum LineJoin {
+    #[default]
     Miter,
     MiterClip,
     Round,
     Bevel,
 }
 
-#[derive(Clone, Copy)]
+/// How a group is mixed with what lies below it.
+#[derive(Clone, Copy, Debug, Default, PartialEq, Eq)]
 pub enum BlendMode {
+    #[default]
     Normal,
     Multiply,
     Screen,
@@ -48,22 +58,28 @@ pub enum BlendMode {
     PlusLighter,
 }
 
-#[derive(Clone, Copy)]
+/// What matters most where a path is drawn.
+#[derive(Clone, Copy, Debug, Default, PartialEq, Eq)]
 pub enum ShapeRendering {
     OptimizeSpeed,
     CrispEdges,
+    #[default]
     GeometricPrecision,
 }
 
-#[derive(Clone, Copy)]
+/// What matters most where a text is drawn.
+#[derive(Clone, Copy, Debug, Default, PartialEq, Eq)]
 pub enum TextRendering {
     OptimizeSpeed,
+    #[default]
     OptimizeLegibility,
     GeometricPrecision,
 }
 
-#[derive(Clone, Copy)]
+/// How an image is scaled.
+#[derive(Clone, Copy, Debug, Default, PartialEq, Eq)]
 pub enum ImageRendering {
+    #[default]
     OptimizeQuality,
     OptimizeSpeed,
     Smooth,
@@ -72,32 +88,40 @@ pub enum ImageRendering {
     Pixelated,
 }
 
-#[derive(Clone, Copy)]
+/// Which way a text runs.
+#[derive(Clone, Copy, Debug, Default, PartialEq, Eq)]
 pub enum WritingMode {
+    #[default]
     LeftToRight,
     TopToBottom,
 }
 
-#[derive(Clone, Copy)]
+/// Which part of a chunk stands at its place.
+#[derive(Clone, Copy, Debug, Default, PartialEq, Eq)]
 pub enum TextAnchor {
+    #[default]
     Start,
     Middle,
     End,
 }
 
-#[derive(Clone, Copy)]
+/// Whether letters lean.
+#[derive(Clone, Copy, Debug, Default, PartialEq, Eq)]
 pub enum FontStyle {
+    #[default]
     Normal,
     Italic,
     Oblique,
 }
 
-#[derive(Clone, Copy)]
+/// How wide letters are.
+#[derive(Clone, Copy, Debug, Default, PartialEq, Eq)]
 pub enum FontStretch {
     UltraCondensed,
     ExtraCondensed,
     Condensed,
     SemiCondensed,
+    #[default]
     Normal,
     SemiExpanded,
     Expanded,
@@ -105,8 +129,10 @@ pub enum FontStretch {
     UltraExpanded,
 }
 
-#[derive(Clone, Copy)]
+/// The line on which a span stands.
+#[derive(Clone, Copy, Debug, Default, PartialEq, Eq)]
 pub enum DominantBaseline {
+    #[default]
     Auto,
     UseScript,
     NoChange,
@@ -121,8 +147,10 @@ pub enum DominantBaseline {
     TextBeforeEdge,
 }
 
-#[derive(Clone, Copy)]
+/// The line by which a span is set to the one around it.
+#[derive(Clone, Copy, Debug, Default, PartialEq, Eq)]
 pub enum AlignmentBaseline {
+    #[default]
     Auto,
     Baseline,
     BeforeEdge,
@@ -137,21 +165,26 @@ pub enum AlignmentBaseline {
     Mathematical,
 }
 
-#[derive(Clone, Copy)]
+/// What is stretched where a text has a length.
+#[derive(Clone, Copy, Debug, Default, PartialEq, Eq)]
 pub enum LengthAdjust {
+    #[default]
     Spacing,
     SpacingAndGlyphs,
 }
 
 /// The units of a gradient.
-#[derive(Clone, Copy)]
+#[derive(Clone, Copy, Debug, Default, PartialEq, Eq)]
 pub enum Units {
     UserSpaceOnUse,
+    #[default]
     ObjectBoundingBox,
 }
 
-#[derive(Clone, Copy)]
+/// How a gradient goes on past its ends.
+#[derive(Clone, Copy, Debug, Default, PartialEq, Eq)]
 pub enum SpreadMethod {
+    #[default]
     Pad,
     Reflect,
     Repeat,

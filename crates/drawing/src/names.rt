@@ -3,7 +3,8 @@
 ghost use Rattle.std.specs.Prelude.{◌≡◌};
 ghost use Rattle.drawing.specs.Names.{attribute_name};
 
-#[derive(Clone, Copy)]
+/// An attribute that a fault can be in.
+#[derive(Clone, Copy, Debug, PartialEq, Eq)]
 pub enum AId {
     Id,
     Transform,
@@ -42,6 +43,8 @@ pub enum AId {
 
 impl AId {
     /// The name as it is written.
+    // Kept: the bytes and no Display, since a record and a plate are bytes.
+    #[tactic(auto, unfolding(crate::specs::Names::attribute_name))]
     pub fn name(self) -> &'static [u8]
         ensures { result.now ≡ attribute_name self }
     {

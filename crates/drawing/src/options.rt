@@ -3,7 +3,8 @@
 ghost use Rattle.std.specs.Prelude.{◌≡◌};
 ghost use Rattle.drawing.specs.Options.{defaults, prefix_of};
 
-#[derive(Clone, Copy)]
+/// How a call is to write.
+#[derive(Clone, Copy, Debug, PartialEq, Eq)]
 pub struct WriteOptions<'a> {
     /// Stands before every id and every referenced id.
     pub id_prefix: Option<&'a [u8]>,
@@ -17,11 +18,11 @@ pub struct WriteOptions<'a> {
     pub use_single_quote: bool,
 }
 
-impl WriteOptions<'_> {
+impl Default for WriteOptions<'_> {
+    ghost is_default = { λ options. options ≡ defaults };
+
     /// usvg's defaults: no prefix, flattened text, eight digits, double quotes.
-    pub fn new() -> WriteOptions<'static>
-        ensures { result ≡ defaults }
-    {
+    fn default() -> Self {
         WriteOptions {
             id_prefix: None,
             preserve_text: false,
@@ -30,14 +31,20 @@ impl WriteOptions<'_> {
             use_single_quote: false,
         }
     }
+}
+
+impl WriteOptions<'_> {
+    /// The default options.
+    pub fn new() -> WriteOptions<'static>
+        ensures { result ≡ defaults }
+    {
+        WriteOptions::default()
+    }
 
     /// The prefix, empty where there is none.
     pub fn prefix(&self) -> &[u8]
         ensures { result.now ≡ prefix_of self.now }
     {
-        match self.id_prefix {
-            Some(prefix) => prefix,
-            None => b"",
-        }
+        self.id_prefix.unwrap_or_default()
     }
 }

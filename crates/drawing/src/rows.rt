@@ -13,14 +13,14 @@ use crate::keywords::{
 };
 
 /// `count` entries of some list, from the entry `start` on.
-#[derive(Clone, Copy)]
+#[derive(Clone, Copy, Debug, Default, PartialEq, Eq)]
 pub struct Place {
     pub start: usize,
     pub count: usize,
 }
 
 /// The point (x, y) goes to (sx x + kx y + tx, ky x + sy y + ty).
-#[derive(Clone, Copy)]
+#[derive(Clone, Copy, Debug, PartialEq)]
 pub struct Transform {
     pub sx: f32,
     pub ky: f32,
@@ -46,7 +46,16 @@ impl Transform {
     }
 }
 
-#[derive(Clone, Copy)]
+impl Default for Transform {
+    ghost is_default = { λ transform. transform ≡ identity };
+
+    fn default() -> Transform {
+        Transform::identity()
+    }
+}
+
+/// A colour, black by default.
+#[derive(Clone, Copy, Debug, Default, PartialEq, Eq)]
 pub struct Color {
     pub red: u8,
     pub green: u8,
@@ -54,7 +63,7 @@ pub struct Color {
 }
 
 /// A colour, or the id that it refers to.
-#[derive(Clone, Copy)]
+#[derive(Clone, Copy, Debug, PartialEq)]
 pub enum Paint {
     Color(Color),
     LinearGradient(Place),
@@ -62,14 +71,16 @@ pub enum Paint {
     Pattern(Place),
 }
 
-#[derive(Clone, Copy)]
+/// How the inside of a path or of letters is painted.
+#[derive(Clone, Copy, Debug, PartialEq)]
 pub struct Fill {
     pub paint: Paint,
     pub opacity: f32,
     pub rule: FillRule,
 }
 
-#[derive(Clone, Copy)]
+/// How an outline is painted.
+#[derive(Clone, Copy, Debug, PartialEq)]
 pub struct Stroke {
     pub paint: Paint,
     /// In `numbers`.
@@ -82,7 +93,8 @@ pub struct Stroke {
     pub linejoin: LineJoin,
 }
 
-#[derive(Clone, Copy)]
+/// A group of nodes, and what is done to it as a whole.
+#[derive(Clone, Copy, Debug, PartialEq)]
 pub struct Group {
     pub id: Place,
     pub transform: Transform,
@@ -97,14 +109,15 @@ pub struct Group {
     pub filters: Place,
 }
 
-#[derive(Clone, Copy)]
+/// A point of a path.
+#[derive(Clone, Copy, Debug, PartialEq)]
 pub struct Point {
     pub x: f32,
     pub y: f32,
 }
 
 /// The points of a curve stand in the order of writing: control points first, where it ends last.
-#[derive(Clone, Copy)]
+#[derive(Clone, Copy, Debug, PartialEq)]
 pub enum PathSegment {
     MoveTo(Point),
     LineTo(Point),
@@ -113,7 +126,8 @@ pub enum PathSegment {
     Close,
 }
 
-#[derive(Clone, Copy)]
+/// A shape made of segments.
+#[derive(Clone, Copy, Debug, PartialEq)]
 pub struct Path {
     pub id: Place,
     pub visible: bool,
@@ -125,7 +139,8 @@ pub struct Path {
     pub data: Place,
 }
 
-#[derive(Clone, Copy)]
+/// A picture from elsewhere.
+#[derive(Clone, Copy, Debug, PartialEq)]
 pub struct Image {
     pub id: Place,
     pub visible: bool,
@@ -136,7 +151,8 @@ pub struct Image {
     pub payload: Place,
 }
 
-#[derive(Clone, Copy)]
+/// A text, made of chunks.
+#[derive(Clone, Copy, Debug, Default, PartialEq, Eq)]
 pub struct Text {
     pub id: Place,
     pub rendering_mode: TextRendering,
@@ -150,19 +166,22 @@ pub struct Text {
 }
 
 /// The path along which a text goes.
-#[derive(Clone, Copy)]
+#[derive(Clone, Copy, Debug, Default, PartialEq)]
 pub struct TextPath {
     pub id: Place,
     pub start_offset: f32,
 }
 
-#[derive(Clone, Copy)]
+/// Where a chunk goes: straight on, or along a path.
+#[derive(Clone, Copy, Debug, Default, PartialEq)]
 pub enum TextFlow {
+    #[default]
     Linear,
     Path(TextPath),
 }
 
-#[derive(Clone, Copy)]
+/// A part of a text with a place of its own, made of spans.
+#[derive(Clone, Copy, Debug, Default, PartialEq)]
 pub struct TextChunk {
     pub x: Option<f32>,
     pub y: Option<f32>,
@@ -174,7 +193,8 @@ pub struct TextChunk {
     pub text: Place,
 }
 
-#[derive(Clone, Copy)]
+/// A family of fonts, by its kind or by its name, a place in `pool`.
+#[derive(Clone, Copy, Debug, PartialEq, Eq)]
 pub enum FontFamily {
     Serif,
     SansSerif,
@@ -184,7 +204,8 @@ pub enum FontFamily {
     Named(Place),
 }
 
-#[derive(Clone, Copy)]
+/// Which font letters are taken from.
+#[derive(Clone, Copy, Debug, PartialEq, Eq)]
 pub struct Font {
     /// In `families`.
     pub families: Place,
@@ -193,20 +214,23 @@ pub struct Font {
     pub weight: u16,
 }
 
-#[derive(Clone, Copy)]
+/// How a line at a text is painted.
+#[derive(Clone, Copy, Debug, Default, PartialEq)]
 pub struct TextDecorationStyle {
     pub fill: Option<Fill>,
     pub stroke: Option<Stroke>,
 }
 
-#[derive(Clone, Copy)]
+/// The lines at a text.
+#[derive(Clone, Copy, Debug, Default, PartialEq)]
 pub struct TextDecoration {
     pub underline: Option<TextDecorationStyle>,
     pub overline: Option<TextDecorationStyle>,
     pub line_through: Option<TextDecorationStyle>,
 }
 
-#[derive(Clone, Copy)]
+/// How far letters stand above or below their line.
+#[derive(Clone, Copy, Debug, PartialEq)]
 pub enum BaselineShift {
     Baseline,
     Subscript,
@@ -214,7 +238,8 @@ pub enum BaselineShift {
     Number(f32),
 }
 
-#[derive(Clone, Copy)]
+/// Letters of a chunk that look alike.
+#[derive(Clone, Copy, Debug, PartialEq)]
 pub struct TextSpan {
     /// The span's bytes of its chunk's text, from `start` up to but without `end`.
     pub start: usize,
@@ -238,14 +263,16 @@ pub struct TextSpan {
     pub length_adjust: LengthAdjust,
 }
 
-#[derive(Clone, Copy)]
+/// A colour of a gradient, and where it stands.
+#[derive(Clone, Copy, Debug, PartialEq)]
 pub struct Stop {
     pub offset: f32,
     pub color: Color,
     pub opacity: f32,
 }
 
-#[derive(Clone, Copy)]
+/// What linear and radial gradients share.
+#[derive(Clone, Copy, Debug, Default, PartialEq)]
 pub struct BaseGradient {
     pub units: Units,
     pub transform: Transform,

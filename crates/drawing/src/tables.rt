@@ -1,9 +1,10 @@
 //! A drawing: lent lists of rows, and what stands at a place in one of them.
 //!
-//! Every view is total: a row past its list is the empty row, and a place past its list is what is left of it. So
+//! Every view is total: a row past its list is the default row, and a place past its list is what is left of it. So
 //! whatever looks at a drawing asks nothing of its caller, and its contract is an equation for all arguments.
 
-ghost use Rattle.std.specs.Prelude.{◌≡◌};
+ghost use Rattle.std.specs.Prelude.{◌≡◌, slice_get};
+ghost use Rattle.std.specs.Option.{UnwrapsOrElse};
 ghost use Rattle.drawing.specs.Tables.{
   entries,
   node_at,
@@ -12,24 +13,17 @@ ghost use Rattle.drawing.specs.Tables.{
   image_at,
   text_at,
   gradient_at,
-  no_group,
-  no_path,
-  no_image,
-  no_text,
-  no_gradient,
 };
 
-use crate::keywords::{
-    BlendMode, ImageRendering, PaintOrder, ShapeRendering, SpreadMethod, TextRendering, Units,
-    WritingMode,
-};
 use crate::rows::{
     BaseGradient, BaselineShift, FontFamily, Group, Image, Path, PathSegment, Place, Stop, Text,
-    TextChunk, TextSpan, Transform,
+    TextChunk, TextSpan,
 };
 
-#[derive(Clone, Copy)]
+/// What a node is, and so which list its row is in.
+#[derive(Clone, Copy, Debug, Default, PartialEq, Eq)]
 pub enum Kind {
+    #[default]
     Group,
     Path,
     Image,
@@ -37,7 +31,7 @@ pub enum Kind {
 }
 
 /// Nodes stand in preorder: a node's descendants are the nodes after it, up to but without its end.
-#[derive(Clone, Copy)]
+#[derive(Clone, Copy, Debug, Default, PartialEq, Eq)]
 pub struct Node {
     pub kind: Kind,
     /// In the list of its kind.
@@ -45,7 +39,9 @@ pub struct Node {
     pub end: usize,
 }
 
-#[derive(Clone, Copy)]
+/// The lists of a drawing.
+// Kept: lists that places name, and no tree of boxes, since these libraries take no allocator.
+#[derive(Clone, Copy, Debug, Default, PartialEq)]
 pub struct Drawing<'a> {
     pub nodes: &'a [Node],
     pub groups: &'a [Group],
@@ -69,151 +65,58 @@ pub struct Drawing<'a> {
 pub fn part<T>(list: &[T], place: Place) -> &[T]
     ensures { result.now ≡ entries list.now place }
 {
-    let start = place.start;
-    let count = place.count;
-    let length = list.len();
-    if start >= length {
-        return &list[length..];
-    }
-    let rest = &list[start..];
-    if count >= rest.len() {
-        rest
-    } else {
-        &rest[0..count]
-    }
+    let rest = list.get(place.start..).unwrap_or_default();
+    rest.get(..place.count).unwrap_or(rest)
 }
 
+/// The row of that number, the default row where the list has none.
+fn row_at<T: Copy + Default>(list: &[T], row: usize) -> T
+    ensures { UnwrapsOrElse (slice_get list.now row) T.is_default result }
+{
+    list.get(row).copied().unwrap_or_default()
+}
+
+#[tactic(auto, using(crate::proofs::Views::row_or))]
 impl Drawing<'_> {
+    /// The node of that number.
     pub fn node(&self, index: usize) -> Node
         ensures { result ≡ node_at self.now index }
     {
-        if index < self.nodes.len() {
-            self.nodes[index]
-        } else {
-            Node {
-                kind: Kind::Group,
-                row: 0,
-                end: 0,
-            }
-        }
+        row_at(self.nodes, index)
     }
 
+    /// The group in that row.
     pub fn group(&self, row: usize) -> Group
         ensures { result ≡ group_at self.now row }
     {
-        if row < self.groups.len() {
-            self.groups[row]
-        } else {
-            no_group()
-        }
+        row_at(self.groups, row)
     }
 
+    /// The path in that row.
     pub fn path(&self, row: usize) -> Path
         ensures { result ≡ path_at self.now row }
     {
-        if row < self.paths.len() {
-            self.paths[row]
-        } else {
-            no_path()
-        }
+        row_at(self.paths, row)
     }
 
+    /// The image in that row.
     pub fn image(&self, row: usize) -> Image
         ensures { result ≡ image_at self.now row }
     {
-        if row < self.images.len() {
-            self.images[row]
-        } else {
-            no_image()
-        }
+        row_at(self.images, row)
     }
 
+    /// The text in that row.
     pub fn text(&self, row: usize) -> Text
         ensures { result ≡ text_at self.now row }
     {
-        if row < self.texts.len() {
-            self.texts[row]
-        } else {
-            no_text()
-        }
+        row_at(self.texts, row)
     }
 
+    /// The gradient in that row.
     pub fn gradient(&self, row: usize) -> BaseGradient
         ensures { result ≡ gradient_at self.now row }
     {
-        if row < self.gradients.len() {
-            self.gradients[row]
-        } else {
-            no_gradient()
-        }
-    }
-}
-
-const NOWHERE: Place = Place { start: 0, count: 0 };
-
-fn no_group() -> Group
-    ensures { result ≡ no_group }
-{
-    Group {
-        id: NOWHERE,
-        transform: Transform::identity(),
-        opacity: 1.0,
-        blend_mode: BlendMode::Normal,
-        isolate: false,
-        clip_path: None,
-        mask: None,
-        filters: NOWHERE,
-    }
-}
-
-fn no_path() -> Path
-    ensures { result ≡ no_path }
-{
-    Path {
-        id: NOWHERE,
-        visible: true,
-        fill: None,
-        stroke: None,
-        paint_order: PaintOrder::FillAndStroke,
-        rendering_mode: ShapeRendering::GeometricPrecision,
-        data: NOWHERE,
-    }
-}
-
-fn no_image() -> Image
-    ensures { result ≡ no_image }
-{
-    Image {
-        id: NOWHERE,
-        visible: true,
-        width: 0.0,
-        height: 0.0,
-        rendering_mode: ImageRendering::OptimizeQuality,
-        payload: NOWHERE,
-    }
-}
-
-fn no_text() -> Text
-    ensures { result ≡ no_text }
-{
-    Text {
-        id: NOWHERE,
-        rendering_mode: TextRendering::OptimizeLegibility,
-        dx: NOWHERE,
-        dy: NOWHERE,
-        rotate: NOWHERE,
-        writing_mode: WritingMode::LeftToRight,
-        chunks: NOWHERE,
-    }
-}
-
-fn no_gradient() -> BaseGradient
-    ensures { result ≡ no_gradient }
-{
-    BaseGradient {
-        units: Units::ObjectBoundingBox,
-        transform: Transform::identity(),
-        spread_method: SpreadMethod::Pad,
-        stops: NOWHERE,
+        row_at(self.gradients, row)
     }
 }
