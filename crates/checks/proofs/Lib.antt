@@ -1,6 +1,5 @@
 pub mod Loops
 pub mod Scans
-pub mod Words
 pub mod Ranges
 pub mod Keeping
 pub mod Orders

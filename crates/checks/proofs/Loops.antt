@@ -1,25 +1,10 @@
 -- The steps of a loop over a list or over a range of numbers.
-use Rattle.std.proofs.Common.{◌≡◌, ℕ, suc, ◌+◌, ◌-◌, ◌<◌, ◌≤◌, Bool, true, false, ◌&&◌, List, length, get_or, drop, Ok, Err, sym, ap, ◌∙◌, arith}
+use Rattle.std.proofs.Common.{◌≡◌, ℕ, suc, ◌+◌, ◌-◌, ◌<◌, ◌≤◌, List, length, get_or, drop, Ok, Err, sym, ap, ◌∙◌, arith}
 use Rattle.std.proofs.lemmas.List.{at_drop_more, at_drop_all}
 use Rattle.drawing.specs.declared.faults.AttributeFault.{AttributeFault}
 use Rattle.checks.specs.declared.entries.Rule.{Rule}
-use Rattle.checks.specs.Verdicts.{Verdict, before, every, count_up}
+use Rattle.checks.specs.Verdicts.{Verdict, before, count_up}
 use Rattle.checks.specs.Entries.{Fields, first_at, each}
-
--- one more entry of a loop passes its test
-pub every_more : {X : Type 0} (test : X → Bool) (xs : List X) (i : ℕ) (d : X) → i < length xs → test (get_or xs i d) ≡ true → every test (drop (i + 1) xs) ≡ every test (drop i xs)
-unfolding every
-every_more test xs i d h e = sym (at_drop_more (every test) xs i d h ∙ ap (λ r. r && every test (drop (i + 1) xs)) e)
-
--- it does not
-pub every_bad : {X : Type 0} (test : X → Bool) (xs : List X) (i : ℕ) (d : X) → i < length xs → test (get_or xs i d) ≡ false → every test (drop i xs) ≡ false
-unfolding every
-every_bad test xs i d h e = at_drop_more (every test) xs i d h ∙ ap (λ r. r && every test (drop (i + 1) xs)) e
-
--- all did
-pub every_all : {X : Type 0} (test : X → Bool) (xs : List X) (i : ℕ) → length xs ≤ i → every test (drop i xs) ≡ true
-unfolding every
-every_all test xs i h = at_drop_all (every test) xs i h
 
 -- one rule over the entries of each of a list: one more passed
 each_more : {X : Type 0} (rule : Rule) (fields : X → Fields) (xs : List X) (i : ℕ) (d : X) → i < length xs
@@ -60,7 +45,7 @@ pub count_more : {F : Type 0} (test : ℕ → Verdict F) (to i : ℕ) → i < to
 unfolding count_up
 count_more test to i h e = sym (ap (λ n. count_up test n i) (one_less to i h) ∙ ap (λ r. before r (count_up test (to - (i + 1)) (i + 1))) e)
 
-count_bad : {F : Type 0} (test : ℕ → Verdict F) (to i : ℕ) (f : F) → i < to → test i ≡ Err f → count_up test (to - i) i ≡ Err f
+pub count_bad : {F : Type 0} (test : ℕ → Verdict F) (to i : ℕ) (f : F) → i < to → test i ≡ Err f → count_up test (to - i) i ≡ Err f
 unfolding count_up
 count_bad test to i f h e = ap (λ n. count_up test n i) (one_less to i h) ∙ ap (λ r. before r (count_up test (to - (i + 1)) (i + 1))) e
 

@@ -1,5 +1,5 @@
 -- The verdict on a row's entries is the first fault in the order of the tests.
-use Rattle.std.proofs.Common.{◌≡◌, Bool, true, false, cond, eqb, List, [], ◌∷◌, ◌++◌, Ok, Err, Decides, filter, sym, refl, ap, ◌∙◌, subst}
+use Rattle.std.proofs.Common.{◌≡◌, Bool, true, false, cond, eqb, List, [], ◌∷◌, ◌++◌, Ok, Err, Decides, filter, sym, refl, ap, ◌∙◌}
 use Rattle.std.specs.List.{AllByRecursion}
 use Rattle.std.proofs.lemmas.List.Elements.{filter-append}
 use Rattle.std.proofs.ByRecursion.{All-append, all_kept_by}
@@ -15,7 +15,7 @@ use Rattle.checks.proofs.Keeping.{decides_entry, entry_fault}
 
 -- ---- the first fault of a list of fields
 
-abbrev pub first_broken : List Field → Verdict AttributeFault
+abbrev first_broken : List Field → Verdict AttributeFault
 first_broken [] = Ok tt
 first_broken (f ∷ fs) = before (recast (in_field f.attribute) (entry_verdict f.entry)) (first_broken fs)
 
@@ -34,7 +34,7 @@ first_append (x ∷ xs) ys =
     ∙ before_assoc (recast (in_field x.attribute) (entry_verdict x.entry)) (first_broken xs) (first_broken ys)
 
 -- one rule's walk finds it among the fields that the rule looks at
-pub first_is : (r : Rule) (fields : Fields) → first_at r fields ≡ first_broken (tested_by r fields)
+first_is : (r : Rule) (fields : Fields) → first_at r fields ≡ first_broken (tested_by r fields)
 unfolding judged
 first_is r none = refl
 first_is r (field attribute e) = go (eqb (rule_number r) (rule_number (rule_of e)))
@@ -53,7 +53,7 @@ append_of r fields v ys e =
     ap (λ u. before u v) (first_is r fields) ∙ ap (before (first_broken (tested_by r fields))) e ∙ sym (first_append (tested_by r fields) ys)
 
 -- and all rules one after the other, in the order of the tests
-pub by_rules_is : (fields : Fields) → by_rules fields ≡ first_broken (ordered fields)
+by_rules_is : (fields : Fields) → by_rules fields ≡ first_broken (ordered fields)
 by_rules_is fields =
     append_of rule.Id fields _ _
     (append_of rule.Empty fields _ _
@@ -78,7 +78,7 @@ push f fs (Err a) k o = record {
   attribute_is = o.attribute_is;
 }
 
-pub outcome : (fs : List Field) → Outcome fs (first_broken fs)
+outcome : (fs : List Field) → Outcome fs (first_broken fs)
 outcome [] = tt
 outcome (f ∷ fs) = go (outcome fs) (entry_verdict f.entry) refl
   where
@@ -95,25 +95,28 @@ outcome (f ∷ fs) = go (outcome fs) (entry_verdict f.entry) refl
       attribute_is = refl;
     }
 
--- a list whose fields all keep their rules has no fault
-pub no_fault : (fs : List Field) → AllByRecursion Kept fs → first_broken fs ≡ Ok tt
-no_fault [] k = refl
-no_fault (f ∷ fs) k = go (no_fault fs k.1) (entry_verdict f.entry) refl
-  where
-    go : first_broken fs ≡ Ok tt → (v : Verdict ValueFault) → entry_verdict f.entry ≡ v → before (recast (in_field f.attribute) v) (first_broken fs) ≡ Ok tt
-    go rest (Ok x) e = rest
-    go rest (Err v) e = absurd (false≢true (sym (ap accepts e) ∙ (decides_entry f.entry).1 k.0))
+all_split : (xs ys : List Field) → AllByRecursion Kept (xs ++ ys) → AllByRecursion Kept xs × AllByRecursion Kept ys
+all_split [] ys k = (tt, k)
+all_split (x ∷ xs) ys k = let s = all_split xs ys k.1 in ((k.0, s.0), s.1)
 
-pub all_of : (fs : List Field) (v : Verdict AttributeFault) → first_broken fs ≡ v → accepts v ≡ true → AllByRecursion Kept fs
-all_of fs (Ok x) e k = subst (λ (v : Verdict AttributeFault). Outcome fs v) e (outcome fs)
-all_of fs (Err f) e k = absurd (false≢true k)
+-- a field that is not kept stands in no list of kept ones
+pub not_all : (fs : List Field) (f : AttributeFault) → FirstBroken fs f → AllByRecursion Kept fs → ⊥
+not_all fs f b k = b.not_kept (all_split b.earlier (b.broken ∷ b.later) (rw b.split at k)).1.0
+
+decides_by : (fs : List Field) (v : Verdict AttributeFault) → Outcome fs v → Decides (accepts v) (AllByRecursion Kept fs)
+decides_by fs (Ok x) o = ((λ _. o), (λ _. refl))
+decides_by fs (Err f) o = ((λ e. cc), (λ k. absurd (not_all fs f o k)))
 
 -- one rule over a row
+pub told_at : (r : Rule) (fields : Fields) → Outcome (tested_by r fields) (first_at r fields)
+told_at r fields = rw (first_is r fields) (outcome (tested_by r fields))
+
+-- and all of them
+pub told : (fields : Fields) → Outcome (ordered fields) (by_rules fields)
+told fields = rw (by_rules_is fields) (outcome (ordered fields))
+
 pub decides_rule : (r : Rule) (fields : Fields) → Decides (accepts (first_at r fields)) (AllByRecursion Kept (tested_by r fields))
-decides_rule r fields = (
-  (λ e. all_of (tested_by r fields) (first_at r fields) (sym (first_is r fields)) e),
-  (λ k. ap accepts (first_is r fields ∙ no_fault (tested_by r fields) k)),
-)
+decides_rule r fields = decides_by (tested_by r fields) (first_at r fields) (told_at r fields)
 
 -- ---- all entries, and those of each rule
 
@@ -136,34 +139,21 @@ by_parts (f ∷ fs) k = (
   by_parts fs (λ r. kept_tail Kept (has_rule r f) f (filter (has_rule r) fs) (k r)),
 )
 
-all_left : (xs ys : List Field) → AllByRecursion Kept (xs ++ ys) → AllByRecursion Kept xs
-all_left [] ys k = tt
-all_left (x ∷ xs) ys k = (k.0, all_left xs ys k.1)
-
-pub all_right : (xs ys : List Field) → AllByRecursion Kept (xs ++ ys) → AllByRecursion Kept ys
-all_right [] ys k = k
-all_right (x ∷ xs) ys k = all_right xs ys k.1
-
 -- all entries of a row keep their rules: those of the places, and those in the order of the tests
 pub all_listed : (fields : Fields) → AllByRecursion Kept (tested_by rule.Place fields) → AllByRecursion Kept (ordered fields) → AllByRecursion Kept (listed fields)
-all_listed fields p o = by_parts (listed fields) go
-  where
-    after_id : AllByRecursion Kept (tested_by rule.Empty fields ++ (tested_by rule.Number fields ++ (tested_by rule.Text fields ++ tested_by rule.Family fields)))
-    after_id = all_right (tested_by rule.Id fields) _ o
-
-    after_empty : AllByRecursion Kept (tested_by rule.Number fields ++ (tested_by rule.Text fields ++ tested_by rule.Family fields))
-    after_empty = all_right (tested_by rule.Empty fields) _ after_id
-
-    after_number : AllByRecursion Kept (tested_by rule.Text fields ++ tested_by rule.Family fields)
-    after_number = all_right (tested_by rule.Number fields) _ after_empty
-
-    go : (r : Rule) → AllByRecursion Kept (tested_by r fields)
-    go rule.Place = p
-    go rule.Id = all_left (tested_by rule.Id fields) _ o
-    go rule.Empty = all_left (tested_by rule.Empty fields) _ after_id
-    go rule.Number = all_left (tested_by rule.Number fields) _ after_empty
-    go rule.Text = all_left (tested_by rule.Text fields) _ after_number
-    go rule.Family = all_right (tested_by rule.Text fields) _ after_number
+all_listed fields places o =
+    let ids = all_split (tested_by rule.Id fields) _ o in
+    let empties = all_split (tested_by rule.Empty fields) _ ids.1 in
+    let numbers = all_split (tested_by rule.Number fields) _ empties.1 in
+    let texts = all_split (tested_by rule.Text fields) _ numbers.1 in
+    by_parts (listed fields) (λ r. elim r as (λ q. AllByRecursion Kept (tested_by q fields)) [
+      | rule.Place ↦ places
+      | rule.Id ↦ ids.0
+      | rule.Empty ↦ empties.0
+      | rule.Number ↦ numbers.0
+      | rule.Text ↦ texts.0
+      | rule.Family ↦ texts.1
+    ])
 
 pub listed_places : (fields : Fields) → AllByRecursion Kept (listed fields) → AllByRecursion Kept (tested_by rule.Place fields)
 listed_places fields k = all_kept_by (has_rule rule.Place) Kept (listed fields) k

@@ -1,7 +1,8 @@
 -- A call's checks accept exactly the sound drawings, and a refusal names the first broken entry.
-use Rattle.std.proofs.Common.{◌≡◌, ℕ, zero, suc, ◌+◌, ◌-◌, ◌<◌, ◌≤◌, Bool, true, false, cond, ◌&&◌, eqb, ltb, leb, List, [], ◌∷◌, length, Some, None, Ok, Err, Decides, filter, sym, refl, ◌∙◌, subst, inl, inr, arith}
+use Rattle.std.proofs.Common.{◌≡◌, ℕ, zero, suc, ◌+◌, ◌-◌, ◌<◌, ◌≤◌, Bool, true, false, cond, eqb, ltb, leb, List, [], ◌∷◌, length, Some, None, Ok, Err, Decides, filter, sym, refl, ◌∙◌, subst, inl, inr, arith}
 use Rattle.std.specs.List.{AllByRecursion}
-use Rattle.std.proofs.lemmas.Bool.{false≢true, ltb-true, leb-true, lt-ltb, le-leb, and_parts, cases_lt}
+use Rattle.std.proofs.lemmas.Bool.{false≢true, ltb-true, leb-true, lt-ltb, le-leb, and_parts, and_from, cases_lt}
+use Rattle.std.proofs.lemmas.Bool.Decides.{Decides-and, Decides-like}
 use Rattle.drawing.specs.declared.faults.AttributeFault.{AttributeFault}
 use Rattle.drawing.specs.declared.faults.NodeFault.{NodeFault}
 use Rattle.drawing.specs.declared.faults.Fault.{Fault}
@@ -13,20 +14,17 @@ use Rattle.drawing.specs.Tables.{node_at, gradient_at, entries}
 use Rattle.checks.specs.declared.entries.Rule.{Rule}
 use Rattle.checks.specs.declared.entries.Rule.TheVariants as rule
 use Rattle.checks.specs.Verdicts.{Verdict, before, recast, found_in, count_up, accepts}
-use Rattle.checks.specs.Entries.{Fields, rule_number, first_at, by_rules, each}
+use Rattle.checks.specs.Entries.{rule_number, first_at, by_rules, each}
 use Rattle.checks.specs.Rows.{node_fields, gradient_fields, each_stop}
-use Rattle.checks.specs.Tables.{rows_fit, entries_fit, lists_fit, table_stands, gradient_stands}
+use Rattle.checks.specs.Tables.{counts, few, lists_fit, table_stands, gradient_stands}
 use Rattle.checks.specs.Calls.{node_verdict, nodes_verdict}
-use Rattle.checks.specs.Sound.{Field, Kept, listed, has_rule, tested_by, ordered, Limited, EntriesAt, Tabled, Sound, GradientTabled, GradientSound, FirstBroken, FirstNode, Refused, GradientRefused, DrawStands, GradientStands}
-use Rattle.checks.proofs.Keeping.{decides_and, decides_le}
-use Rattle.checks.proofs.Orders.{first_is, by_rules_is, Outcome, outcome, decides_rule, by_parts, all_right, all_listed, listed_places, listed_ordered}
+use Rattle.checks.specs.Sound.{Field, Kept, listed, has_rule, tested_by, ordered, Limited, EntriesAt, Tabled, Sound, GradientTabled, GradientSound, FirstNode, Refused, GradientRefused, DrawStands, GradientStands}
+use Rattle.checks.proofs.Keeping.{decides_le}
+use Rattle.checks.proofs.Orders.{Outcome, not_all, told, told_at, decides_rule, by_parts, all_listed, listed_places, listed_ordered}
 use Rattle.std.proofs.ByRecursion.{all_kept_by}
 use Rattle.checks.proofs.Forests.{fits, stands}
 
 -- ---- nodes in table order
-
-told : (fields : Fields) → Outcome (ordered fields) (by_rules fields)
-told fields = subst (λ (v : Verdict AttributeFault). Outcome (ordered fields) v) (sym (by_rules_is fields)) (outcome (ordered fields))
 
 abbrev NodesOutcome : Drawing → ℕ → ℕ → Verdict NodeFault → Type 0
 NodesOutcome d from to (Ok x) = (i : ℕ) → from ≤ i → i < to → EntriesAt ordered d i
@@ -70,47 +68,35 @@ nodes_outcome (suc n) d from to e =
 
 -- ---- tables
 
-converted : (b : Bool) (P Q : Type 0) → (P → Q) → (Q → P) → Decides b P → Decides b Q
-converted b P Q f g p = ((λ e. f (p.0 e)), (λ q. p.1 (g q)))
-
-decides_rows : (d : Drawing) → Decides (rows_fit d)
-    ((length d.nodes.now ≤ 4096) × ((length d.groups.now ≤ 16384) × ((length d.paths.now ≤ 16384) × ((length d.images.now ≤ 16384)
-    × ((length d.texts.now ≤ 16384) × ((length d.chunks.now ≤ 16384) × (length d.spans.now ≤ 16384)))))))
-decides_rows d =
-    decides_and _ _ _ _ (decides_le _ _) (decides_and _ _ _ _ (decides_le _ _) (decides_and _ _ _ _ (decides_le _ _) (decides_and _ _ _ _ (decides_le _ _)
-    (decides_and _ _ _ _ (decides_le _ _) (decides_and _ _ _ _ (decides_le _ _) (decides_le _ _))))))
-
-decides_entries : (d : Drawing) → Decides (entries_fit d)
-    ((length d.segments.now ≤ 16384) × ((length d.numbers.now ≤ 16384) × ((length d.references.now ≤ 16384) × ((length d.families.now ≤ 16384)
-    × ((length d.shifts.now ≤ 16384) × ((length d.gradients.now ≤ 16384) × ((length d.stops.now ≤ 16384) × (length d.pool.now ≤ 65536))))))))
-decides_entries d =
-    decides_and _ _ _ _ (decides_le _ _) (decides_and _ _ _ _ (decides_le _ _) (decides_and _ _ _ _ (decides_le _ _) (decides_and _ _ _ _ (decides_le _ _)
-    (decides_and _ _ _ _ (decides_le _ _) (decides_and _ _ _ _ (decides_le _ _) (decides_and _ _ _ _ (decides_le _ _) (decides_le _ _)))))))
+decides_few : (counts : List ℕ) → Decides (few counts) (AllByRecursion (λ n. n ≤ 16384) counts)
+decides_few [] = ((λ _. tt), (λ _. refl))
+decides_few (n ∷ counts) = Decides-and _ _ (decides_le n 16384) (decides_few counts)
 
 decides_fit : (d : Drawing) → Decides (lists_fit d) (Limited d)
-decides_fit d = converted _ _ _
-    (λ p. record {
-      nodes = p.0.0;
-      groups = p.0.1.0;
-      paths = p.0.1.1.0;
-      images = p.0.1.1.1.0;
-      texts = p.0.1.1.1.1.0;
-      chunks = p.0.1.1.1.1.1.0;
-      spans = p.0.1.1.1.1.1.1;
-      segments = p.1.0;
-      numbers = p.1.1.0;
-      references = p.1.1.1.0;
-      families = p.1.1.1.1.0;
-      shifts = p.1.1.1.1.1.0;
-      gradients = p.1.1.1.1.1.1.0;
-      stops = p.1.1.1.1.1.1.1.0;
-      pool = p.1.1.1.1.1.1.1.1;
+decides_fit d = Decides-like _
+    (λ (nodes, (pool, (groups, (paths, (images, (texts, (chunks, (spans, (segments, (numbers, (references, (families, (shifts, (gradients, (stops, _))))))))))))))).
+    record {
+      nodes = nodes;
+      groups = groups;
+      paths = paths;
+      images = images;
+      texts = texts;
+      chunks = chunks;
+      spans = spans;
+      segments = segments;
+      numbers = numbers;
+      references = references;
+      families = families;
+      shifts = shifts;
+      gradients = gradients;
+      stops = stops;
+      pool = pool;
     })
     (λ l. (
-      (l.nodes, (l.groups, (l.paths, (l.images, (l.texts, (l.chunks, l.spans)))))),
-      (l.segments, (l.numbers, (l.references, (l.families, (l.shifts, (l.gradients, (l.stops, l.pool))))))),
+      l.nodes,
+      (l.pool, (l.groups, (l.paths, (l.images, (l.texts, (l.chunks, (l.spans, (l.segments, (l.numbers, (l.references, (l.families, (l.shifts, (l.gradients, (l.stops, tt)))))))))))))),
     ))
-    (decides_and _ _ _ _ (decides_rows d) (decides_entries d))
+    (Decides-and _ _ (decides_le _ _) (Decides-and _ _ (decides_le _ _) (decides_few (counts d))))
 
 tabled_of : (d : Drawing) (node : ℕ) → table_stands d node ≡ true → Tabled d node
 tabled_of d node e =
@@ -128,21 +114,15 @@ tabled_of d node e =
       places = λ i p q. (decides_rule rule.Place (node_fields d (node_at d i))).0 (f.rows i p q);
     }
 
-all_four : (a b c e : Bool) → a ≡ true → b ≡ true → c ≡ true → e ≡ true → (a && (b && (c && e))) ≡ true
-all_four a b c e p q r s = rw (p, q, r, s)
-
 table_of : (d : Drawing) (node : ℕ) → Tabled d node → table_stands d node ≡ true
 table_of d node t =
-    all_four (lists_fit d) _ _ _ ((decides_fit d).1 t.limited) (lt-ltb _ _ t.has_end) (le-leb _ _ t.within)
+    and_from _ _ ((decides_fit d).1 t.limited)
+    (and_from _ _ (lt-ltb _ _ t.has_end)
+    (and_from _ _ (le-leb _ _ t.within)
     (stands d 64 node (node_at d node).end t.shape t.laid t.shallow
-    (λ i p q. (decides_rule rule.Place (node_fields d (node_at d i))).1 (t.places i p q)))
+    (λ i p q. (decides_rule rule.Place (node_fields d (node_at d i))).1 (t.places i p q)))))
 
 -- ---- draw
-
--- a field that is not kept stands in no list of kept ones
-not_all : (fs : List Field) (f : AttributeFault) → FirstBroken fs f → AllByRecursion Kept fs → ⊥
-not_all fs f b k =
-    b.not_kept (all_right b.earlier (b.broken ∷ b.later) (subst (λ (l : List Field). AllByRecursion Kept l) b.split k)).0
 
 pub draw_stands : DrawStands
 draw_stands d node = go (table_stands d node) refl (nodes_verdict d node (node_at d node).end) (nodes_outcome ((node_at d node).end - node) d node (node_at d node).end refl)
@@ -151,18 +131,18 @@ draw_stands d node = go (table_stands d node) refl (nodes_verdict d node (node_a
         → Decides (accepts (cond b (recast of_node v) (Err (fault.Table (Some node))))) (Sound d node)
         × ((f : Fault) → cond b (recast of_node v) (Err (fault.Table (Some node))) ≡ Err f → Refused d node f)
     go false p v o = (
-      ((λ e. absurd (false≢true e)), (λ s. sym p ∙ table_of d node s.tabled)),
+      ((λ e. cc), (λ s. sym p ∙ table_of d node s.tabled)),
       (λ f e. inl (cc, (λ t. false≢true (sym p ∙ table_of d node t)))),
     )
     go true p (Ok x) o =
         let t = tabled_of d node p in (
           ((λ _. record { tabled = t; entries = λ i a b. all_listed (node_fields d (node_at d i)) (t.places i a b) (o i a b) }), (λ _. refl)),
-          (λ f e. let z : ◌≡◌ {A = ℕ} 0 1 = cc in absurd (omega arith)),
+          (λ f e. cc),
         )
     go true p (Err found) o =
         let t = tabled_of d node p in (
           (
-            (λ e. absurd (false≢true e)),
+            (λ e. cc),
             (λ s. absurd (not_all _ _ o.here (listed_ordered (node_fields d (node_at d o.index)) (s.entries o.index o.not_before o.not_after)))),
           ),
           (λ f e. inr (found, (cc, (t, o)))),
@@ -192,14 +172,10 @@ numbers_alone d row p n = by_parts (listed (gradient_fields d row)) go
     go rule.Family = subst (λ (l : List Field). AllByRecursion Kept l) (sym (no_stops rule.Family refl stops)) tt
 
 decides_gradient_table : (d : Drawing) (row : ℕ) → Decides (gradient_stands d row) (GradientTabled d row)
-decides_gradient_table d row = decides_and _ _ _ _ (decides_fit d) (decides_rule rule.Place (gradient_fields d row))
-
-numbers_told : (fields : Fields) → Outcome (tested_by rule.Number fields) (first_at rule.Number fields)
-numbers_told fields =
-    subst (λ (v : Verdict AttributeFault). Outcome (tested_by rule.Number fields) v) (sym (first_is rule.Number fields)) (outcome (tested_by rule.Number fields))
+decides_gradient_table d row = Decides-and _ _ (decides_fit d) (decides_rule rule.Place (gradient_fields d row))
 
 pub gradient_check_stands : GradientStands
-gradient_check_stands d row = go (gradient_stands d row) refl (first_at rule.Number (gradient_fields d row)) (numbers_told (gradient_fields d row))
+gradient_check_stands d row = go (gradient_stands d row) refl (first_at rule.Number (gradient_fields d row)) (told_at rule.Number (gradient_fields d row))
   where
     placed : GradientSound d row → GradientTabled d row
     placed s = (s.0, listed_places (gradient_fields d row) s.1)
@@ -211,12 +187,12 @@ gradient_check_stands d row = go (gradient_stands d row) refl (first_at rule.Num
         → Decides (accepts (cond b (recast outside_nodes v) (Err (fault.Table None)))) (GradientSound d row)
         × ((f : Fault) → cond b (recast outside_nodes v) (Err (fault.Table None)) ≡ Err f → GradientRefused d row f)
     go false p v o = (
-      ((λ e. absurd (false≢true e)), (λ s. sym p ∙ (decides_gradient_table d row).1 (placed s))),
+      ((λ e. cc), (λ s. sym p ∙ (decides_gradient_table d row).1 (placed s))),
       (λ f e. inl (cc, (λ t. false≢true (sym p ∙ (decides_gradient_table d row).1 t)))),
     )
     go true p (Ok x) o =
         let t = (decides_gradient_table d row).0 p in
-        (((λ _. (t.0, numbers_alone d row t.1 o)), (λ _. refl)), (λ f e. let z : ◌≡◌ {A = ℕ} 0 1 = cc in absurd (omega arith)))
+        (((λ _. (t.0, numbers_alone d row t.1 o)), (λ _. refl)), (λ f e. cc))
     go true p (Err found) o =
         let t = (decides_gradient_table d row).0 p in
-        (((λ e. absurd (false≢true e)), (λ s. absurd (not_all _ _ o (numbered s)))), (λ f e. inr (found, (cc, (t, o)))))
+        (((λ e. cc), (λ s. absurd (not_all _ _ o (numbered s)))), (λ f e. inr (found, (cc, (t, o)))))

@@ -1,12 +1,13 @@
 -- The rule for ids.
 use Rattle.std.specs.Prelude.{ℕ, Bool, cond, ◌&&◌, ◌||◌, List, length, Ok, Err, ◌==◌, nat_le, nat_lt}
+use Rattle.std.specs.List.{list_all}
 use Rattle.drawing.specs.declared.names.AId.{AId}
 use Rattle.drawing.specs.declared.faults.ValueFault.{ValueFault}
 use Rattle.drawing.specs.declared.faults.ValueFault.TheVariants.{Id}
 use Rattle.drawing.specs.declared.faults.IdFault.TheVariants.{Missing, TooLong, BadByte}
 use Rattle.drawing.specs.declared.faults.AttributeFault.{AttributeFault}
 use Rattle.drawing.specs.Faults.{in_attribute}
-use Rattle.checks.specs.Verdicts.{Verdict, every, recast, found_in}
+use Rattle.checks.specs.Verdicts.{Verdict, recast, found_in}
 
 abbrev pub between : ℕ → ℕ → ℕ → Bool
 between low high byte = nat_le low byte && nat_le byte high
@@ -16,7 +17,7 @@ abbrev pub id_byte : ℕ → Bool
 id_byte b = between 65 90 b || (between 97 122 b || (between 48 57 b || (b == 95 || (b == 45 || (b == 46 || b == 58)))))
 
 abbrev pub id_bytes : List ℕ → Bool
-id_bytes bytes = every id_byte bytes
+id_bytes bytes = list_all id_byte bytes
 
 -- at most 64 of them
 unfoldable pub id_verdict : List ℕ → Verdict ValueFault

@@ -1,13 +1,13 @@
 -- The rule for tables.
-use Rattle.std.specs.Prelude.{ℕ, zero, suc, ◌+◌, ◌-◌, Bool, true, false, cond, ◌&&◌, length, ◌==◌, nat_le, nat_lt}
+use Rattle.std.specs.Prelude.{ℕ, zero, suc, ◌+◌, ◌-◌, Bool, true, false, cond, ◌&&◌, List, [], ◌∷◌, length, Some, None, Ok, Err, Option, Result, ◌==◌, nat_le, nat_lt}
+use Rattle.std.specs.List.{list_all}
 use Rattle.drawing.specs.declared.tables.Kind.{Kind}
 use Rattle.drawing.specs.declared.tables.Kind.TheVariants.{Group, Path, Image, Text}
 use Rattle.drawing.specs.declared.tables.Node.{Node}
 use Rattle.drawing.specs.declared.tables.Drawing.{Drawing}
 use Rattle.drawing.specs.Tables.{node_at}
 use Rattle.checks.specs.declared.entries.Rule.TheVariants.{Place}
-use Rattle.checks.specs.declared.tables.Held.{Held}
-use Rattle.checks.specs.declared.tables.Held.TheVariants.{Broken, Nothing, Children}
+use Rattle.checks.specs.declared.tables.Broken.{Broken}
 use Rattle.checks.specs.Verdicts.{accepts}
 use Rattle.checks.specs.Entries.{first_at}
 use Rattle.checks.specs.Rows.{node_fields, gradient_fields}
@@ -26,17 +26,24 @@ is_group Text = false
 abbrev pub lone_group : Node → ℕ → Bool
 lone_group n end = is_group n.kind && n.end == end
 
+-- what a node holds: no nodes, or nodes among them groups at most so deep; or it is against the rule
+abbrev pub Held : Type 0
+Held = Result (Option ℕ) Broken
+
+abbrev pub broken : Held
+broken = Err (record {})
+
 -- a group may hold groups that are one less deep; a text's child counts for itself
 abbrev pub deeper : ℕ → Held
-deeper zero = Broken
-deeper (suc depth) = Children depth
+deeper zero = broken
+deeper (suc depth) = Ok (Some depth)
 
 -- what a node of each kind holds between i and its end; `next` is the node after it
 abbrev pub held_by : Kind → ℕ → ℕ → ℕ → Node → Held
 held_by Group depth i end next = deeper depth
-held_by Path depth i end next = cond (end == i + 1) Nothing Broken
-held_by Image depth i end next = cond (end == i + 1) Nothing Broken
-held_by Text depth i end next = cond (nat_lt (i + 1) end && lone_group next end) (Children depth) Broken
+held_by Path depth i end next = cond (end == i + 1) (Ok None) broken
+held_by Image depth i end next = cond (end == i + 1) (Ok None) broken
+held_by Text depth i end next = cond (nat_lt (i + 1) end && lone_group next end) (Ok (Some depth)) broken
 
 -- it ends after itself and inside the range, and its row is there
 abbrev pub sits : Drawing → Node → ℕ → ℕ → Bool
@@ -44,13 +51,13 @@ sits d n i to = nat_lt i n.end && (nat_le n.end to && row_stands d n)
 
 unfoldable pub held_at : Drawing → ℕ → ℕ → ℕ → Held
 held_at d depth i to =
-    cond (sits d (node_at d i) i to) (held_by (node_at d i).kind depth i (node_at d i).end (node_at d (i + 1))) Broken
+    cond (sits d (node_at d i) i to) (held_by (node_at d i).kind depth i (node_at d i).end (node_at d (i + 1))) broken
 
 -- its children are right, and so is what follows it
 abbrev pub goes_on : Held → (ℕ → Bool) → Bool → Bool
-goes_on Broken children rest = false
-goes_on Nothing children rest = rest
-goes_on (Children depth) children rest = children depth && rest
+goes_on (Err _) children rest = false
+goes_on (Ok None) children rest = rest
+goes_on (Ok (Some depth)) children rest = children depth && rest
 
 -- The nodes from i to `to` follow one another and fill the range exactly. The first number bounds how many are looked at.
 unfoldable pub tiles : ℕ → Drawing → ℕ → ℕ → ℕ → Bool
@@ -66,29 +73,29 @@ range_stands d depth i to = tiles (to - i) d depth i to
 
 -- ---- the limits
 
-abbrev pub rows_fit : Drawing → Bool
-rows_fit d =
-    nat_le (length d.nodes.now) 4096
-    && (nat_le (length d.groups.now) 16384
-    && (nat_le (length d.paths.now) 16384
-    && (nat_le (length d.images.now) 16384
-    && (nat_le (length d.texts.now) 16384
-    && (nat_le (length d.chunks.now) 16384
-    && nat_le (length d.spans.now) 16384)))))
+-- of every list but the nodes and the pool, how many entries it has
+abbrev pub counts : Drawing → List ℕ
+counts d =
+    length d.groups.now
+    ∷ length d.paths.now
+    ∷ length d.images.now
+    ∷ length d.texts.now
+    ∷ length d.chunks.now
+    ∷ length d.spans.now
+    ∷ length d.segments.now
+    ∷ length d.numbers.now
+    ∷ length d.references.now
+    ∷ length d.families.now
+    ∷ length d.shifts.now
+    ∷ length d.gradients.now
+    ∷ length d.stops.now
+    ∷ []
 
-abbrev pub entries_fit : Drawing → Bool
-entries_fit d =
-    nat_le (length d.segments.now) 16384
-    && (nat_le (length d.numbers.now) 16384
-    && (nat_le (length d.references.now) 16384
-    && (nat_le (length d.families.now) 16384
-    && (nat_le (length d.shifts.now) 16384
-    && (nat_le (length d.gradients.now) 16384
-    && (nat_le (length d.stops.now) 16384
-    && nat_le (length d.pool.now) 65536))))))
+abbrev pub few : List ℕ → Bool
+few counts = list_all (λ n. nat_le n 16384) counts
 
 abbrev pub lists_fit : Drawing → Bool
-lists_fit d = rows_fit d && entries_fit d
+lists_fit d = nat_le (length d.nodes.now) 4096 && (nat_le (length d.pool.now) 65536 && few (counts d))
 
 -- ---- the rule at a node that is drawn, and at a gradient row
 

@@ -1,8 +1,8 @@
 -- The rule for texts.
-use Rattle.std.specs.Prelude.{◌≡◌, ℕ, Bool, true, false, cond, not, ◌&&◌, ◌||◌, List, [], ◌∷◌, length, ◌==◌, nat_le, nat_lt, slice_index}
+use Rattle.std.specs.Prelude.{◌≡◌, ℕ, Bool, true, cond, not, ◌&&◌, ◌||◌, List, length, ◌==◌, nat_le, nat_lt, slice_index}
 use Rattle.std.proofs.Math.Utf8.{encodes}
-use Rattle.std.specs.Str.{chars}
-use Rattle.checks.specs.Verdicts.{every}
+use Rattle.std.specs.Str.{chars, bytes_eq}
+use Rattle.std.specs.List.{list_all}
 use Rattle.checks.specs.Ids.{between}
 
 -- Char of XML 1.0: #x9 | #xA | #xD | [#x20-#xD7FF] | [#xE000-#xFFFD] | [#x10000-#x10FFFF]
@@ -11,17 +11,11 @@ xml_char c = c == 9 || (c == 10 || (c == 13 || (between 0x20 0xD7FF c || (betwee
 
 -- some allowed characters have these bytes
 abbrev pub Text : List ℕ → Type 0
-Text bytes = (characters : List ℕ) × ((every xml_char characters ≡ true) × (encodes characters ≡ bytes))
-
-abbrev pub same : List ℕ → List ℕ → Bool
-same [] [] = true
-same [] (y ∷ ys) = false
-same (x ∷ xs) [] = false
-same (x ∷ xs) (y ∷ ys) = x == y && same xs ys
+Text bytes = (characters : List ℕ) × ((list_all xml_char characters ≡ true) × (encodes characters ≡ bytes))
 
 -- as a test: the characters that the bytes decode to have these bytes and are allowed
 unfoldable pub text_stands : List ℕ → Bool
-text_stands bytes = same (encodes (chars bytes)) bytes && every xml_char (chars bytes)
+text_stands bytes = bytes_eq (encodes (chars bytes)) bytes && list_all xml_char (chars bytes)
 
 -- the end of the bytes, or a byte that does not go on with a character
 abbrev pub character_bound : List ℕ → ℕ → Bool

@@ -1,14 +1,9 @@
 -- Verdicts: accepted, or the first fault.
-use Rattle.std.specs.Prelude.{ℕ, zero, suc, ◌+◌, Bool, true, false, cond, ◌&&◌, List, [], ◌∷◌, Ok, Err, Result}
+use Rattle.std.specs.Prelude.{ℕ, zero, suc, ◌+◌, Bool, true, false, cond, Ok, Err, Result}
 use Rattle.drawing.specs.declared.faults.Found.{Found}
 
 abbrev pub Verdict : Type 0 → Type 0
 Verdict F = Result (Unit {0}) F
-
--- each entry of a list passes a test
-unfoldable pub every : {X : Type 0} → (X → Bool) → List X → Bool
-every test [] = true
-every test (x ∷ xs) = test x && every test xs
 
 -- the fault in another one's words
 abbrev pub recast : {F G : Type 0} → (F → G) → Verdict F → Verdict G

@@ -4,7 +4,7 @@
 //! rules for ids, empty values, numbers, texts and families, each over all the fields of its row before the next.
 
 ghost use Rattle.std.specs.Prelude.{◌≡◌};
-ghost use Rattle.checks.specs.Calls.{node_verdict, nodes_verdict, draw_verdict, gradient_verdict};
+ghost use Rattle.checks.specs.Calls.{node_verdict, draw_verdict, gradient_verdict};
 
 use crate::entries::Rule;
 use crate::nodes::{check_gradient_fields, check_values};
@@ -13,20 +13,12 @@ use crate::verdicts::found_at;
 use drawing::faults::{Fault, NodeFault};
 use drawing::tables::Drawing;
 
+#[tactic(auto, unfolding(crate::specs::Calls::node_verdict))]
 fn check_node(drawing: &Drawing, index: usize) -> Result<(), NodeFault>
     ensures { result ≡ node_verdict drawing.now index }
 {
-    found_at(index, check_values(drawing, drawing.node(index)))?;
-    Ok(())
-}
-
-fn check_nodes(drawing: &Drawing, from: usize, to: usize) -> Result<(), NodeFault>
-    ensures { result ≡ nodes_verdict drawing.now from to }
-{
-    for index in from..to {
-        check_node(drawing, index)?;
-    }
-    Ok(())
+    let values = check_values(drawing, drawing.node(index));
+    Ok(found_at(index, values)?)
 }
 
 /// Whether a node of a drawing can be drawn.
@@ -36,7 +28,9 @@ pub fn check_draw(drawing: &Drawing, node: usize) -> Result<(), Fault>
     if !is_table(drawing, node) {
         return Err(Fault::Table(Some(node)));
     }
-    check_nodes(drawing, node, drawing.node(node).end)?;
+    for index in node..drawing.node(node).end {
+        check_node(drawing, index)?;
+    }
     Ok(())
 }
 
@@ -47,6 +41,5 @@ pub fn check_gradient(drawing: &Drawing, row: usize) -> Result<(), Fault>
     if !is_gradient_table(drawing, row) {
         return Err(Fault::Table(None));
     }
-    check_gradient_fields(drawing, Rule::Number, row)?;
-    Ok(())
+    Ok(check_gradient_fields(drawing, Rule::Number, row)?)
 }

@@ -4,9 +4,23 @@
 //! A bare name is CSS identifiers joined by single spaces and, as a whole and in any ASCII letter case, none of the nine
 //! words that mean something else in `font-family`.
 
-ghost use Rattle.std.specs.Prelude.{◌≡◌, Bool, true, false, map};
+ghost use Rattle.std.specs.Prelude.{◌≡◌, map};
+ghost use Rattle.std.specs.List.{list_any};
 ghost use Rattle.std.specs.Char.{to_ascii_lowercase};
-ghost use Rattle.checks.specs.Families.{plain_byte, plain_bytes, starts_identifier, in_identifier, next_spot, spot_after, generic_word, reserved_word, bare_name, word};
+ghost use Rattle.checks.specs.Families.{plain_byte, plain_bytes, starts_identifier, in_identifier, next_spot, spot_after, reserved_word, bare_name, word};
+
+/// The words that mean something else in `font-family`.
+const RESERVED: [&str; 9] = [
+    "serif",
+    "sans-serif",
+    "cursive",
+    "fantasy",
+    "monospace",
+    "inherit",
+    "initial",
+    "unset",
+    "default",
+];
 
 /// Where in a name of identifiers the next byte stands.
 #[derive(Clone, Copy)]
@@ -17,132 +31,76 @@ pub enum Spot {
     Hyphen,
     /// After a byte that may end an identifier.
     Inside,
-    /// After a byte that no identifier has there.
-    Wrong,
 }
 
 fn is_plain_byte(byte: u8) -> bool
     ensures { result ≡ plain_byte byte }
 {
-    match byte {
-        b'"' => false,
-        b'\'' => false,
-        b'\\' => false,
-        b'\n' => false,
-        b'\r' => false,
-        _ => true,
-    }
+    !matches!(byte, b'"' | b'\'' | b'\\' | b'\n' | b'\r')
 }
 
 /// Whether a name can stand in quotes as it is.
 pub fn has_plain_bytes(bytes: &[u8]) -> bool
     ensures { result ≡ plain_bytes bytes.now }
 {
-    for byte in bytes {
-        if !is_plain_byte(*byte) {
-            return false;
-        }
-    }
-    true
+    bytes.iter().all(|byte| is_plain_byte(*byte))
 }
 
 fn starts_identifier(byte: u8) -> bool
     ensures { result ≡ starts_identifier byte }
 {
-    match byte {
-        b'A'..=b'Z' => true,
-        b'a'..=b'z' => true,
-        b'_' => true,
-        0x80..=0xFF => true,
-        _ => false,
-    }
+    matches!(byte, b'A'..=b'Z' | b'a'..=b'z' | b'_' | 0x80..=0xFF)
 }
 
 fn is_in_identifier(byte: u8) -> bool
     ensures { result ≡ in_identifier byte }
 {
-    match byte {
-        b'0'..=b'9' => true,
-        b'-' => true,
-        _ => starts_identifier(byte),
-    }
+    matches!(byte, b'0'..=b'9' | b'-') || starts_identifier(byte)
 }
 
-fn next_spot(spot: Spot, byte: u8) -> Spot
+/// Where the byte after this one stands, if a name of identifiers may have this one there.
+fn next_spot(spot: Spot, byte: u8) -> Option<Spot>
     ensures { result ≡ next_spot spot byte }
 {
-    match spot {
-        Spot::Start => {
-            if starts_identifier(byte) {
-                Spot::Inside
-            } else if byte == b'-' {
-                Spot::Hyphen
-            } else {
-                Spot::Wrong
-            }
-        }
-        Spot::Hyphen => {
-            if starts_identifier(byte) {
-                Spot::Inside
-            } else {
-                Spot::Wrong
-            }
-        }
-        Spot::Inside => {
-            if is_in_identifier(byte) {
-                Spot::Inside
-            } else if byte == b' ' {
-                Spot::Start
-            } else {
-                Spot::Wrong
-            }
-        }
-        Spot::Wrong => Spot::Wrong,
+    match (spot, byte) {
+        (Spot::Start | Spot::Hyphen, _) if starts_identifier(byte) => Some(Spot::Inside),
+        (Spot::Start, b'-') => Some(Spot::Hyphen),
+        (Spot::Inside, _) if is_in_identifier(byte) => Some(Spot::Inside),
+        (Spot::Inside, b' ') => Some(Spot::Start),
+        _ => None,
     }
 }
 
-fn spot_after(bytes: &[u8]) -> Spot
+#[tactic(auto, unfolding(crate::specs::Families::spot_after))]
+fn spot_after(bytes: &[u8]) -> Option<Spot>
     ensures { result ≡ spot_after bytes.now }
 {
-    let mut spot = Spot::Start;
-    for byte in bytes {
-        spot = next_spot(spot, *byte);
-    }
-    spot
+    bytes
+        .iter()
+        .fold(Some(Spot::Start), |spot, byte| next_spot(spot?, *byte))
 }
 
-fn is_word(bytes: &[u8], text: &[u8]) -> bool
+fn is_word(bytes: &[u8], text: &str) -> bool
     ensures { result ≡ word (map to_ascii_lowercase text.now) bytes.now }
 {
-    bytes.eq_ignore_ascii_case(text)
+    bytes.eq_ignore_ascii_case(text.as_bytes())
 }
 
-fn is_generic_word(bytes: &[u8]) -> bool
-    ensures { result ≡ generic_word bytes.now }
+fn is_one_of(bytes: &[u8], words: &[&str]) -> bool
+    ensures { result ≡ list_any (λ text. word (map to_ascii_lowercase text.now) bytes.now) words.now }
 {
-    is_word(bytes, b"serif")
-        || is_word(bytes, b"sans-serif")
-        || is_word(bytes, b"cursive")
-        || is_word(bytes, b"fantasy")
-        || is_word(bytes, b"monospace")
+    words.iter().any(|text| is_word(bytes, text))
 }
 
 fn is_reserved_word(bytes: &[u8]) -> bool
     ensures { result ≡ reserved_word bytes.now }
 {
-    is_generic_word(bytes)
-        || is_word(bytes, b"inherit")
-        || is_word(bytes, b"initial")
-        || is_word(bytes, b"unset")
-        || is_word(bytes, b"default")
+    is_one_of(bytes, &RESERVED)
 }
 
 /// Whether a name goes without quotes.
 pub fn is_bare_name(bytes: &[u8]) -> bool
     ensures { result ≡ bare_name bytes.now }
 {
-    match spot_after(bytes) {
-        Spot::Inside => !is_reserved_word(bytes),
-        _ => false,
-    }
+    matches!(spot_after(bytes), Some(Spot::Inside)) && !is_reserved_word(bytes)
 }

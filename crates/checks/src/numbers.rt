@@ -2,7 +2,7 @@
 //!
 //! A number that passes is one that `digits` shows: rounded or bare, as its attribute has it.
 
-ghost use Rattle.std.specs.Prelude.{◌≡◌, Bool, true, false};
+ghost use Rattle.std.specs.Prelude.{◌≡◌};
 ghost use Rattle.checks.specs.Numbers.{shown_in, in_range, number_verdict};
 
 use digits::showing::{is_shown_bare, is_shown_rounded};
@@ -32,9 +32,8 @@ fn is_in_range(domain: Domain, x: f32) -> bool
     ensures { result ≡ in_range domain x }
 {
     match domain {
-        Domain::Rounded => true,
-        Domain::Bare => true,
-        Domain::Fraction => 0.0 <= x && x <= 1.0,
+        Domain::Rounded | Domain::Bare => true,
+        Domain::Fraction => (0.0..=1.0).contains(&x),
         Domain::AboveZero => 0.0 < x,
         Domain::AtLeastOne => 1.0 <= x,
         Domain::AtLeastZero => 0.0 <= x,
@@ -42,6 +41,7 @@ fn is_in_range(domain: Domain, x: f32) -> bool
 }
 
 /// A number of a domain.
+#[tactic(auto, unfolding(crate::specs::Numbers::number_verdict))]
 pub fn number(domain: Domain, x: f32) -> Result<(), ValueFault>
     ensures { result ≡ number_verdict domain x }
 {

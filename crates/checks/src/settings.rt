@@ -1,6 +1,6 @@
 //! The rule for a call's options: precisions of at most 8, and a prefix of at most 32 id bytes.
 
-ghost use Rattle.std.specs.Prelude.{◌≡◌, Bool, true, false};
+ghost use Rattle.std.specs.Prelude.{◌≡◌};
 ghost use Rattle.checks.specs.Settings.{prefix_stands, settings_stand};
 
 use crate::ids::has_id_bytes;

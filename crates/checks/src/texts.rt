@@ -1,8 +1,8 @@
 //! The rule for texts: UTF-8 of characters that XML 1.0 allows, and a span that lies in its text at character bounds.
 
-ghost use Rattle.std.specs.Prelude.{◌≡◌, Bool, true, false, Decides};
+ghost use Rattle.std.specs.Prelude.{◌≡◌, Decides};
 ghost use Rattle.std.specs.Str.{chars};
-ghost use Rattle.checks.specs.Verdicts.{every};
+ghost use Rattle.std.specs.List.{list_all};
 ghost use Rattle.checks.specs.Texts.{xml_char, text_stands, Text, character_bound, span_lies};
 
 use std::str::from_utf8;
@@ -11,26 +11,16 @@ use std::str::from_utf8;
 pub fn is_xml_char(character: char) -> bool
     ensures { result ≡ xml_char character }
 {
-    match character {
-        '\t' => true,
-        '\n' => true,
-        '\r' => true,
-        '\u{20}'..='\u{D7FF}' => true,
-        '\u{E000}'..='\u{FFFD}' => true,
-        '\u{10000}'..='\u{10FFFF}' => true,
-        _ => false,
-    }
+    matches!(
+        character,
+        '\t' | '\n' | '\r' | '\u{20}'..='\u{D7FF}' | '\u{E000}'..='\u{FFFD}' | '\u{10000}'..='\u{10FFFF}'
+    )
 }
 
 fn has_xml_chars(text: &str) -> bool
-    ensures { result ≡ every xml_char (chars text.now) }
+    ensures { result ≡ list_all xml_char (chars text.now) }
 {
-    for character in text.chars() {
-        if !is_xml_char(character) {
-            return false;
-        }
-    }
-    true
+    text.chars().all(is_xml_char)
 }
 
 /// Whether some allowed characters have these bytes.
@@ -38,10 +28,7 @@ pub fn is_text(bytes: &[u8]) -> bool
     ensures value { result ≡ text_stands bytes.now }
     ensures means { Decides result (Text bytes.now) }
 {
-    match from_utf8(bytes) {
-        Ok(text) => has_xml_chars(text),
-        Err(_) => false,
-    }
+    from_utf8(bytes).is_ok_and(has_xml_chars)
 }
 
 /// Whether a character begins or the text ends there. It asks nothing of the text: a byte from 80 to BF goes on with a
@@ -49,10 +36,9 @@ pub fn is_text(bytes: &[u8]) -> bool
 pub fn is_character_bound(bytes: &[u8], at: usize) -> bool
     ensures { result ≡ character_bound bytes.now at }
 {
-    if at < bytes.len() {
-        bytes[at] < 0x80 || bytes[at] >= 0xC0
-    } else {
-        at == bytes.len()
+    match bytes.get(at) {
+        Some(byte) => !matches!(byte, 0x80..=0xBF),
+        None => at == bytes.len(),
     }
 }
 

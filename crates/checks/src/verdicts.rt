@@ -9,8 +9,5 @@ use drawing::faults::Found;
 pub fn found_at<P: Drop, F>(place: P, verdict: Result<(), F>) -> Result<(), Found<P, F>>
     ensures { result ≡ found_in place verdict }
 {
-    match verdict {
-        Ok(()) => Ok(()),
-        Err(fault) => Err(Found { place, fault }),
-    }
+    verdict.map_err(|fault| Found { place, fault })
 }

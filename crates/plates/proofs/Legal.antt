@@ -12,7 +12,6 @@ use Rattle.markup.proofs.Checks.{name_tests, all_in_tests, distinct_tests}
 use Rattle.markup.proofs.Encodings.{low, encodes_low}
 use Rattle.drawing.specs.declared.options.WriteOptions.{WriteOptions}
 use Rattle.drawing.specs.Options.{prefix_of}
-use Rattle.checks.specs.Verdicts.{every}
 use Rattle.checks.specs.Ids.{id_byte, id_bytes}
 use Rattle.checks.specs.Settings.{settings_stand}
 use Rattle.plates.specs.declared.elements.Element.{Element}
@@ -51,12 +50,10 @@ id_low : (c : ℕ) → id_byte c ≡ true → T (low c)
 id_low c h = let k = T_of h in grind (arith, nat_tests)
 
 each_id : (P : ℕ → Bool) → ((c : ℕ) → id_byte c ≡ true → T (P c)) → (bs rest : List ℕ) → id_bytes bs ≡ true → ZeroOrMore P rest → ZeroOrMore P (bs ++ rest)
-unfolding every
 each_id P f [] rest h k = k
 each_id P f (b ∷ bs) rest h k = let s = both_true (id_byte b) _ h in (f b s.0, each_id P f bs rest s.1 k)
 
 each_in : (P : ℕ → Bool) → ((c : ℕ) → id_byte c ≡ true → T (P c)) → (bs : List ℕ) → id_bytes bs ≡ true → ZeroOrMore P bs
-unfolding every
 each_in P f [] h = tt
 each_in P f (b ∷ bs) h = let s = both_true (id_byte b) _ h in (f b s.0, each_in P f bs s.1)
 

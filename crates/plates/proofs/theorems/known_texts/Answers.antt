@@ -1,10 +1,9 @@
 use Rattle.std.proofs.Common.{refl}
-use Rattle.checks.specs.Verdicts.{every}
 use Rattle.checks.specs.Ids.{id_verdict, id_in}
 use Rattle.plates.proofs.theorems.known_texts.Goals as goal
 
 pub returns : goal.returns
-unfolding every id_verdict id_in
+unfolding id_verdict id_in
 returns c = record {
   opened = refl;
   nine = refl;
