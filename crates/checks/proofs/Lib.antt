@@ -1,4 +1,5 @@
 pub mod Loops
+pub mod Rules
 pub mod Scans
 pub mod Ranges
 pub mod Keeping

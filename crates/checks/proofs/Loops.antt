@@ -55,7 +55,3 @@ count_all test to i h = let e : to - i ≡ 0 = omega arith in ap (λ n. count_up
 
 pub count_exit : {F : Type 0} (test : ℕ → Verdict F) (to i : ℕ) (q r s : Verdict F) (f : F) → count_up test (to - i) i ≡ s → q ≡ test i → i < to → q ≡ Err f → r ≡ Err f → r ≡ s
 count_exit test to i q r s f inv e h b g = g ∙ sym (count_bad test to i f h (sym e ∙ b)) ∙ inv
-
--- a chain of tests: this one passed, q is what it gave
-pub passed : {F : Type 0} (p q r s : Verdict F) → q ≡ p → q ≡ Ok tt → s ≡ r → s ≡ before p r
-passed p q r s e ok k = k ∙ sym (ap (λ t. before t r) (sym e ∙ ok))

@@ -5,6 +5,7 @@ pub mod Numbers
 pub mod Texts
 pub mod Families
 pub mod Entries
+pub mod Meant
 pub mod Rows
 pub mod Tables
 pub mod Calls

@@ -4,196 +4,134 @@
 
 ghost use Rattle.std.specs.Prelude.{◌≡◌};
 ghost use Rattle.checks.specs.Entries.{first_at};
-ghost use Rattle.checks.specs.Rows.{number_if_any, pool_fields, id_fields, reference_fields, reference_if_any, text_fields, each_number, number_list, transform_fields, paint_fields, fill_fields, dash_fields, stroke_fields};
+ghost use Rattle.checks.specs.Rows.{number_if_any, pool_fields, id_fields, reference_fields, reference_if_any, text_fields, number_list, transform_fields, paint_fields, fill_fields, dash_fields, stroke_fields};
 
-use crate::entries::{
-    Rule, check_not_empty, check_number, check_own_id, check_place, check_referenced_id, check_text,
-};
+use crate::entries::{Checker, Entry};
 use crate::numbers::Domain;
 use drawing::faults::AttributeFault;
 use drawing::names::AId;
 use drawing::rows::{Fill, Paint, Place, Stroke, Transform};
-use drawing::tables::{Drawing, part};
+use drawing::tables::part;
 
-/// A number, if there is one.
-pub fn check_number_if_any(
-    rule: Rule,
-    attribute: AId,
-    domain: Domain,
-    x: Option<f32>,
-) -> Result<(), AttributeFault>
-    ensures { result ≡ first_at rule (number_if_any attribute domain x) }
-{
-    match x {
-        Some(x) => check_number(rule, attribute, domain, x),
-        None => Ok(()),
+impl Checker<'_> {
+    /// A number, if there is one.
+    pub fn check_number_if_any(
+        &self,
+        attribute: AId,
+        domain: Domain,
+        x: Option<f32>,
+    ) -> Result<(), AttributeFault>
+        ensures { result ≡ first_at self.now.rule (number_if_any attribute domain x) }
+    {
+        let Some(x) = x else { return Ok(()) };
+        self.check_number(attribute, domain, x)
     }
-}
 
-/// A row's own id.
-pub fn check_id(drawing: &Drawing, rule: Rule, id: Place) -> Result<(), AttributeFault>
-    ensures { result ≡ first_at rule (id_fields drawing.now id) }
-{
-    check_place(rule, drawing.pool.len(), id)?;
-    check_own_id(rule, AId::Id, part(drawing.pool, id))
-}
-
-/// A reference to an id.
-pub fn check_reference(
-    drawing: &Drawing,
-    rule: Rule,
-    attribute: AId,
-    id: Place,
-) -> Result<(), AttributeFault>
-    ensures { result ≡ first_at rule (reference_fields drawing.now attribute id) }
-{
-    check_place(rule, drawing.pool.len(), id)?;
-    check_referenced_id(rule, attribute, part(drawing.pool, id))
-}
-
-/// A reference to an id, if there is one.
-pub fn check_reference_if_any(
-    drawing: &Drawing,
-    rule: Rule,
-    attribute: AId,
-    id: Option<Place>,
-) -> Result<(), AttributeFault>
-    ensures { result ≡ first_at rule (reference_if_any drawing.now attribute id) }
-{
-    match id {
-        Some(id) => check_reference(drawing, rule, attribute, id),
-        None => Ok(()),
+    /// A row's own id.
+    pub fn check_id(&self, id: Place) -> Result<(), AttributeFault>
+        ensures { result ≡ first_at self.now.rule (id_fields self.now.drawing.now id) }
+    {
+        self.check_place(self.drawing.pool, id)?;
+        self.check_entry(Some(AId::Id), Entry::OwnId(part(self.drawing.pool, id)))
     }
-}
 
-/// A text of the pool.
-pub fn check_pool_text(
-    drawing: &Drawing,
-    rule: Rule,
-    attribute: Option<AId>,
-    text: Place,
-) -> Result<(), AttributeFault>
-    ensures { result ≡ first_at rule (text_fields drawing.now attribute text) }
-{
-    check_place(rule, drawing.pool.len(), text)?;
-    check_text(rule, attribute, part(drawing.pool, text))
-}
-
-fn check_each_number(
-    rule: Rule,
-    attribute: AId,
-    domain: Domain,
-    numbers: &[f32],
-) -> Result<(), AttributeFault>
-    ensures { result ≡ first_at rule (each_number attribute domain numbers.now) }
-{
-    for x in numbers {
-        check_number(rule, attribute, domain, *x)?;
+    /// A reference to an id.
+    pub fn check_reference(&self, attribute: AId, id: Place) -> Result<(), AttributeFault>
+        ensures { result ≡ first_at self.now.rule (reference_fields self.now.drawing.now attribute id) }
+    {
+        self.check_place(self.drawing.pool, id)?;
+        self.check_entry(
+            Some(attribute),
+            Entry::ReferencedId(part(self.drawing.pool, id)),
+        )
     }
-    Ok(())
-}
 
-/// A list of numbers.
-pub fn check_number_list(
-    drawing: &Drawing,
-    rule: Rule,
-    attribute: AId,
-    domain: Domain,
-    list: Place,
-) -> Result<(), AttributeFault>
-    ensures { result ≡ first_at rule (number_list drawing.now attribute domain list) }
-{
-    check_place(rule, drawing.numbers.len(), list)?;
-    check_each_number(rule, attribute, domain, part(drawing.numbers, list))
-}
-
-/// The six numbers of a transform.
-pub fn check_transform(
-    rule: Rule,
-    attribute: AId,
-    transform: Transform,
-) -> Result<(), AttributeFault>
-    ensures { result ≡ first_at rule (transform_fields attribute transform) }
-{
-    check_number(rule, attribute, Domain::Rounded, transform.sx)?;
-    check_number(rule, attribute, Domain::Rounded, transform.ky)?;
-    check_number(rule, attribute, Domain::Rounded, transform.kx)?;
-    check_number(rule, attribute, Domain::Rounded, transform.sy)?;
-    check_number(rule, attribute, Domain::Rounded, transform.tx)?;
-    check_number(rule, attribute, Domain::Rounded, transform.ty)
-}
-
-fn check_paint(
-    drawing: &Drawing,
-    rule: Rule,
-    attribute: AId,
-    paint: Paint,
-) -> Result<(), AttributeFault>
-    ensures { result ≡ first_at rule (paint_fields drawing.now attribute paint) }
-{
-    match paint {
-        Paint::Color(_) => Ok(()),
-        Paint::LinearGradient(id) => check_reference(drawing, rule, attribute, id),
-        Paint::RadialGradient(id) => check_reference(drawing, rule, attribute, id),
-        Paint::Pattern(id) => check_reference(drawing, rule, attribute, id),
+    /// A reference to an id, if there is one.
+    pub fn check_reference_if_any(
+        &self,
+        attribute: AId,
+        id: Option<Place>,
+    ) -> Result<(), AttributeFault>
+        ensures { result ≡ first_at self.now.rule (reference_if_any self.now.drawing.now attribute id) }
+    {
+        let Some(id) = id else { return Ok(()) };
+        self.check_reference(attribute, id)
     }
-}
 
-pub fn check_fill(drawing: &Drawing, rule: Rule, fill: Option<Fill>) -> Result<(), AttributeFault>
-    ensures { result ≡ first_at rule (fill_fields drawing.now fill) }
-{
-    match fill {
-        Some(fill) => {
-            check_paint(drawing, rule, AId::Fill, fill.paint)?;
-            check_number(rule, AId::FillOpacity, Domain::Fraction, fill.opacity)
+    /// A text of the pool.
+    pub fn check_pool_text(&self, attribute: Option<AId>, text: Place) -> Result<(), AttributeFault>
+        ensures { result ≡ first_at self.now.rule (text_fields self.now.drawing.now attribute text) }
+    {
+        self.check_place(self.drawing.pool, text)?;
+        self.check_entry(attribute, Entry::Text(part(self.drawing.pool, text)))
+    }
+
+    /// A list of numbers.
+    pub fn check_number_list(
+        &self,
+        attribute: AId,
+        domain: Domain,
+        list: Place,
+    ) -> Result<(), AttributeFault>
+        ensures { result ≡ first_at self.now.rule (number_list self.now.drawing.now attribute domain list) }
+    {
+        self.check_list(self.drawing.numbers, list, |x| {
+            self.check_number(attribute, domain, *x)
+        })
+    }
+
+    /// The six numbers of a transform.
+    pub fn check_transform(
+        &self,
+        attribute: AId,
+        transform: Transform,
+    ) -> Result<(), AttributeFault>
+        ensures { result ≡ first_at self.now.rule (transform_fields attribute transform) }
+    {
+        self.check_number(attribute, Domain::Rounded, transform.sx)?;
+        self.check_number(attribute, Domain::Rounded, transform.ky)?;
+        self.check_number(attribute, Domain::Rounded, transform.kx)?;
+        self.check_number(attribute, Domain::Rounded, transform.sy)?;
+        self.check_number(attribute, Domain::Rounded, transform.tx)?;
+        self.check_number(attribute, Domain::Rounded, transform.ty)
+    }
+
+    fn check_paint(&self, attribute: AId, paint: Paint) -> Result<(), AttributeFault>
+        ensures { result ≡ first_at self.now.rule (paint_fields self.now.drawing.now attribute paint) }
+    {
+        match paint {
+            Paint::Color(_) => Ok(()),
+            Paint::LinearGradient(place) | Paint::RadialGradient(place) | Paint::Pattern(place) => {
+                self.check_reference(attribute, place)
+            }
         }
-        None => Ok(()),
     }
-}
 
-fn check_dasharray(
-    drawing: &Drawing,
-    rule: Rule,
-    dasharray: Option<Place>,
-) -> Result<(), AttributeFault>
-    ensures { result ≡ first_at rule (dash_fields drawing.now dasharray) }
-{
-    match dasharray {
-        Some(list) => {
-            check_not_empty(rule, AId::StrokeDasharray, list.count)?;
-            check_number_list(
-                drawing,
-                rule,
-                AId::StrokeDasharray,
-                Domain::AtLeastZero,
-                list,
-            )
-        }
-        None => Ok(()),
+    pub fn check_fill(&self, fill: Option<Fill>) -> Result<(), AttributeFault>
+        ensures { result ≡ first_at self.now.rule (fill_fields self.now.drawing.now fill) }
+    {
+        let Some(fill) = fill else { return Ok(()) };
+        self.check_paint(AId::Fill, fill.paint)?;
+        self.check_number(AId::FillOpacity, Domain::Fraction, fill.opacity)
     }
-}
 
-pub fn check_stroke(
-    drawing: &Drawing,
-    rule: Rule,
-    stroke: Option<Stroke>,
-) -> Result<(), AttributeFault>
-    ensures { result ≡ first_at rule (stroke_fields drawing.now stroke) }
-{
-    match stroke {
-        Some(stroke) => {
-            check_paint(drawing, rule, AId::Stroke, stroke.paint)?;
-            check_dasharray(drawing, rule, stroke.dasharray)?;
-            check_number(rule, AId::StrokeDashoffset, Domain::Bare, stroke.dashoffset)?;
-            check_number(
-                rule,
-                AId::StrokeMiterlimit,
-                Domain::AtLeastOne,
-                stroke.miterlimit,
-            )?;
-            check_number(rule, AId::StrokeOpacity, Domain::Fraction, stroke.opacity)?;
-            check_number(rule, AId::StrokeWidth, Domain::AboveZero, stroke.width)
-        }
-        None => Ok(()),
+    fn check_dasharray(&self, dasharray: Option<Place>) -> Result<(), AttributeFault>
+        ensures { result ≡ first_at self.now.rule (dash_fields self.now.drawing.now dasharray) }
+    {
+        let Some(list) = dasharray else { return Ok(()) };
+        self.check_entry(Some(AId::StrokeDasharray), Entry::NotEmpty(list.count))?;
+        self.check_number_list(AId::StrokeDasharray, Domain::AtLeastZero, list)
+    }
+
+    pub fn check_stroke(&self, stroke: Option<Stroke>) -> Result<(), AttributeFault>
+        ensures { result ≡ first_at self.now.rule (stroke_fields self.now.drawing.now stroke) }
+    {
+        let Some(stroke) = stroke else { return Ok(()) };
+        self.check_paint(AId::Stroke, stroke.paint)?;
+        self.check_dasharray(stroke.dasharray)?;
+        self.check_number(AId::StrokeDashoffset, Domain::Bare, stroke.dashoffset)?;
+        self.check_number(AId::StrokeMiterlimit, Domain::AtLeastOne, stroke.miterlimit)?;
+        self.check_number(AId::StrokeOpacity, Domain::Fraction, stroke.opacity)?;
+        self.check_number(AId::StrokeWidth, Domain::AboveZero, stroke.width)
     }
 }

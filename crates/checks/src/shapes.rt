@@ -2,119 +2,88 @@
 
 ghost use Rattle.std.specs.Prelude.{◌≡◌};
 ghost use Rattle.checks.specs.Entries.{first_at};
-ghost use Rattle.checks.specs.Rows.{filter_fields, group_fields, point_fields, segment_fields, each_segment, path_fields, image_fields, stop_fields, each_stop, base_gradient_fields};
+ghost use Rattle.checks.specs.Rows.{group_fields, point_fields, segment_fields, path_fields, image_fields, stop_fields, base_gradient_fields};
 
-use crate::entries::{Rule, check_begins_with_move, check_number, check_place};
+use crate::entries::{Checker, Entry, check_each};
 use crate::numbers::Domain;
-use crate::paints::{
-    check_fill, check_id, check_pool_text, check_reference, check_reference_if_any, check_stroke,
-    check_transform,
-};
 use drawing::faults::AttributeFault;
 use drawing::names::AId;
-use drawing::rows::{BaseGradient, Group, Image, Path, PathSegment, Place, Point, Stop};
-use drawing::tables::{Drawing, part};
+use drawing::rows::{BaseGradient, Group, Image, Path, PathSegment, Point, Stop};
+use drawing::tables::part;
 
-fn check_each_filter(drawing: &Drawing, rule: Rule, filters: &[Place]) -> Result<(), AttributeFault>
-    ensures { result ≡ first_at rule (filter_fields drawing.now filters.now) }
-{
-    for id in filters {
-        check_reference(drawing, rule, AId::Filter, *id)?;
+impl Checker<'_> {
+    pub fn check_group(&self, group: &Group) -> Result<(), AttributeFault>
+        ensures { result ≡ first_at self.now.rule (group_fields self.now.drawing.now group.now) }
+    {
+        self.check_id(group.id)?;
+        self.check_transform(AId::Transform, group.transform)?;
+        self.check_number(AId::Opacity, Domain::Fraction, group.opacity)?;
+        self.check_reference_if_any(AId::ClipPath, group.clip_path)?;
+        self.check_reference_if_any(AId::Mask, group.mask)?;
+        self.check_list(self.drawing.references, group.filters, |id| {
+            self.check_reference(AId::Filter, *id)
+        })
     }
-    Ok(())
-}
 
-pub fn check_group(drawing: &Drawing, rule: Rule, group: &Group) -> Result<(), AttributeFault>
-    ensures { result ≡ first_at rule (group_fields drawing.now group.now) }
-{
-    check_id(drawing, rule, group.id)?;
-    check_transform(rule, AId::Transform, group.transform)?;
-    check_number(rule, AId::Opacity, Domain::Fraction, group.opacity)?;
-    check_reference_if_any(drawing, rule, AId::ClipPath, group.clip_path)?;
-    check_reference_if_any(drawing, rule, AId::Mask, group.mask)?;
-    check_place(rule, drawing.references.len(), group.filters)?;
-    check_each_filter(drawing, rule, part(drawing.references, group.filters))
-}
+    fn check_point(&self, point: Point) -> Result<(), AttributeFault>
+        ensures { result ≡ first_at self.now.rule (point_fields point) }
+    {
+        self.check_number(AId::D, Domain::Rounded, point.x)?;
+        self.check_number(AId::D, Domain::Rounded, point.y)
+    }
 
-fn check_point(rule: Rule, point: Point) -> Result<(), AttributeFault>
-    ensures { result ≡ first_at rule (point_fields point) }
-{
-    check_number(rule, AId::D, Domain::Rounded, point.x)?;
-    check_number(rule, AId::D, Domain::Rounded, point.y)
-}
-
-fn check_segment(rule: Rule, segment: PathSegment) -> Result<(), AttributeFault>
-    ensures { result ≡ first_at rule (segment_fields segment) }
-{
-    match segment {
-        PathSegment::MoveTo(p) => check_point(rule, p),
-        PathSegment::LineTo(p) => check_point(rule, p),
-        PathSegment::QuadTo(p1, p) => {
-            check_point(rule, p1)?;
-            check_point(rule, p)
+    fn check_segment(&self, segment: PathSegment) -> Result<(), AttributeFault>
+        ensures { result ≡ first_at self.now.rule (segment_fields segment) }
+    {
+        match segment {
+            PathSegment::MoveTo(p) | PathSegment::LineTo(p) => self.check_point(p),
+            PathSegment::QuadTo(p1, p) => {
+                self.check_point(p1)?;
+                self.check_point(p)
+            }
+            PathSegment::CubicTo(p1, p2, p) => {
+                self.check_point(p1)?;
+                self.check_point(p2)?;
+                self.check_point(p)
+            }
+            PathSegment::Close => Ok(()),
         }
-        PathSegment::CubicTo(p1, p2, p) => {
-            check_point(rule, p1)?;
-            check_point(rule, p2)?;
-            check_point(rule, p)
-        }
-        PathSegment::Close => Ok(()),
     }
-}
 
-fn check_each_segment(rule: Rule, segments: &[PathSegment]) -> Result<(), AttributeFault>
-    ensures { result ≡ first_at rule (each_segment segments.now) }
-{
-    for segment in segments {
-        check_segment(rule, *segment)?;
+    pub fn check_path(&self, path: &Path) -> Result<(), AttributeFault>
+        ensures { result ≡ first_at self.now.rule (path_fields self.now.drawing.now path.now) }
+    {
+        let segments = part(self.drawing.segments, path.data);
+        self.check_id(path.id)?;
+        self.check_fill(path.fill)?;
+        self.check_stroke(path.stroke)?;
+        self.check_place(self.drawing.segments, path.data)?;
+        self.check_entry(Some(AId::D), Entry::BeginsWithMove(segments))?;
+        check_each(segments, |segment| self.check_segment(*segment))
     }
-    Ok(())
-}
 
-pub fn check_path(drawing: &Drawing, rule: Rule, path: &Path) -> Result<(), AttributeFault>
-    ensures { result ≡ first_at rule (path_fields drawing.now path.now) }
-{
-    check_id(drawing, rule, path.id)?;
-    check_fill(drawing, rule, path.fill)?;
-    check_stroke(drawing, rule, path.stroke)?;
-    check_place(rule, drawing.segments.len(), path.data)?;
-    check_begins_with_move(rule, AId::D, part(drawing.segments, path.data))?;
-    check_each_segment(rule, part(drawing.segments, path.data))
-}
-
-pub fn check_image(drawing: &Drawing, rule: Rule, image: &Image) -> Result<(), AttributeFault>
-    ensures { result ≡ first_at rule (image_fields drawing.now image.now) }
-{
-    check_id(drawing, rule, image.id)?;
-    check_number(rule, AId::Width, Domain::AboveZero, image.width)?;
-    check_number(rule, AId::Height, Domain::AboveZero, image.height)?;
-    check_pool_text(drawing, rule, Some(AId::Href), image.payload)
-}
-
-fn check_stop(rule: Rule, stop: Stop) -> Result<(), AttributeFault>
-    ensures { result ≡ first_at rule (stop_fields stop) }
-{
-    check_number(rule, AId::Offset, Domain::Fraction, stop.offset)?;
-    check_number(rule, AId::StopOpacity, Domain::Fraction, stop.opacity)
-}
-
-fn check_each_stop(rule: Rule, stops: &[Stop]) -> Result<(), AttributeFault>
-    ensures { result ≡ first_at rule (each_stop stops.now) }
-{
-    for stop in stops {
-        check_stop(rule, *stop)?;
+    pub fn check_image(&self, image: &Image) -> Result<(), AttributeFault>
+        ensures { result ≡ first_at self.now.rule (image_fields self.now.drawing.now image.now) }
+    {
+        self.check_id(image.id)?;
+        self.check_number(AId::Width, Domain::AboveZero, image.width)?;
+        self.check_number(AId::Height, Domain::AboveZero, image.height)?;
+        self.check_pool_text(Some(AId::Href), image.payload)
     }
-    Ok(())
-}
 
-pub fn check_base_gradient(
-    drawing: &Drawing,
-    rule: Rule,
-    gradient: &BaseGradient,
-) -> Result<(), AttributeFault>
-    ensures { result ≡ first_at rule (base_gradient_fields drawing.now gradient.now) }
-{
-    check_transform(rule, AId::GradientTransform, gradient.transform)?;
-    check_place(rule, drawing.stops.len(), gradient.stops)?;
-    check_each_stop(rule, part(drawing.stops, gradient.stops))
+    fn check_stop(&self, stop: Stop) -> Result<(), AttributeFault>
+        ensures { result ≡ first_at self.now.rule (stop_fields stop) }
+    {
+        self.check_number(AId::Offset, Domain::Fraction, stop.offset)?;
+        self.check_number(AId::StopOpacity, Domain::Fraction, stop.opacity)
+    }
+
+    pub fn check_base_gradient(&self, gradient: &BaseGradient) -> Result<(), AttributeFault>
+        ensures { result ≡ first_at self.now.rule (base_gradient_fields self.now.drawing.now gradient.now) }
+    {
+        self.check_transform(AId::GradientTransform, gradient.transform)?;
+        self.check_list(self.drawing.stops, gradient.stops, |stop| {
+            self.check_stop(*stop)
+        })
+    }
 }
