@@ -68,9 +68,6 @@ after_lost s (b ∷ x) l h =
     (λ (k : s.capacity ≤ length s.held). ap (λ (z : PenState). z.lost) (after_full s b x k))
     (cases_lt (length s.held) s.capacity)
 
-pub after_split : (s : PenState) (x y : List ℕ) → after s (x ++ y) ≡ after (after s x) y
-after_split s x y = sym (after_after s x y)
-
 -- A call: from nothing lost, it wrote x, and then it was settled with n bytes owed.
 
 pub leb_sum : (h r x n : ℕ) → h + x ≤ r → leb n (r - (h + x)) ≡ leb (h + x + n) r

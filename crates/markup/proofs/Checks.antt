@@ -1,12 +1,13 @@
 -- Each test says exactly what it tests.
-use Rattle.std.proofs.Common.{◌≡◌, ℕ, Bool, not, T, eqb, List, [], ◌∷◌, refl, subst, ap₂, eqb→eq, T_not}
-use lib.Dec.{eqb_refl}
+use Rattle.std.proofs.Common.{◌≡◌, ℕ, Bool, not, T, List, [], ◌∷◌, refl, T_not}
+use Rattle.std.proofs.Math.Dec.{not_T}
+use Rattle.std.proofs.lemmas.Slice.Eq.{bytes_eq-Decides}
 use Rattle.std.specs.Str.{bytes_eq}
 use Rattle.markup.specs.Attributes.{Attribute}
 use Rattle.markup.specs.Characters.{is_char, is_name_start, is_name_char, ZeroOrMore, Name, Apart, Distinct}
 use Rattle.markup.specs.Trees.{empty, character, element, Written, attribute_names, LegalAttributes, WellFormed}
 use Rattle.markup.specs.Checks.{all_in, is_name, is_apart, are_distinct, are_legal, is_well_formed, Tests, Checks}
-use Rattle.markup.proofs.Classes.{and_T, both, not_T}
+use Rattle.markup.proofs.Classes.{T_of, true_of, and_T, both}
 
 pub all_in_tests : (class : ℕ → Bool) (cs : List ℕ) → Tests (all_in class cs) (ZeroOrMore class cs)
 all_in_tests class [] = (λ h. h, λ h. h)
@@ -21,20 +22,16 @@ name_tests (c ∷ cs) =
     (λ h. (let s = both (is_name_start c) _ h in (s.0, more.0 s.1)), λ h. and_T (is_name_start c) _ h.0 (more.1 h.1))
 
 pub same_refl : (x : List ℕ) → T (bytes_eq x x)
-same_refl [] = tt
-same_refl (c ∷ x) = and_T (eqb c c) _ (eqb_refl c) (same_refl x)
+same_refl x = T_of ((bytes_eq-Decides x x).1 refl)
 
 pub same_is : (x y : List ℕ) → T (bytes_eq x y) → x ≡ y
-same_is [] [] h = refl
-same_is [] (d ∷ y) h = elim h [ ]
-same_is (c ∷ x) [] h = elim h [ ]
-same_is (c ∷ x) (d ∷ y) h = let s = both (eqb c d) _ h in ap₂ ◌∷◌ (eqb→eq c d s.0) (same_is x y s.1)
+same_is x y h = (bytes_eq-Decides x y).0 (true_of _ h)
 
 pub apart_tests : (x : List ℕ) (ys : List (List ℕ)) → Tests (is_apart x ys) (Apart x ys)
 apart_tests x [] = (λ h. h, λ h. h)
 apart_tests x (y ∷ ys) =
     let ih = apart_tests x ys in (
-      λ h. (let s = both (not (bytes_eq x y)) _ h in ((λ e. T_not (bytes_eq x y) s.0 (subst (λ v. T (bytes_eq x v)) e (same_refl x))), ih.0 s.1)),
+      λ h. (let s = both (not (bytes_eq x y)) _ h in ((λ e. T_not (bytes_eq x y) s.0 (T_of ((bytes_eq-Decides x y).1 e))), ih.0 s.1)),
       λ h. and_T (not (bytes_eq x y)) _ (not_T (bytes_eq x y) (λ t. h.0 (same_is x y t))) (ih.1 h.1),
     )
 

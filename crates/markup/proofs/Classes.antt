@@ -9,6 +9,10 @@ use Rattle.markup.specs.CharacterReferences.{Reference, entity_ref, decimal_ref,
 pub T_of : {b : Bool} → b ≡ true → T b
 T_of {b} e = subst (λ v. T v) (sym e) tt
 
+pub true_of : (b : Bool) → T b → b ≡ true
+true_of true h = refl
+true_of false h = elim h [ ]
+
 pub not_T_of : {b : Bool} → b ≡ false → T (not b)
 not_T_of {b} e = subst (λ v. T (not v)) (sym e) tt
 
@@ -19,10 +23,6 @@ and_T false b x y = x
 pub both : (a b : Bool) → T (a && b) → T a × T b
 both true b h = (tt, h)
 both false b h = elim h [ ]
-
-pub not_T : (b : Bool) → (T b → ⊥) → T (not b)
-not_T true h = h tt
-not_T false h = tt
 
 pub or_T : (a b : Bool) → T (a || b) → T a ⊎ T b
 or_T true b h = inl tt

@@ -8,13 +8,14 @@ use Rattle.std.proofs.lemmas.List.{append-nil}
 use Rattle.std.proofs.lemmas.Bool.Decides.{nat_tests}
 use Rattle.markup.specs.declared.quotes.Quote.{Quote}
 use Rattle.markup.specs.declared.quotes.Quote.TheVariants.{Double, Single}
-use Rattle.markup.specs.Escapes.{quote_mark, escape_value, escape_text, value_then, text_then}
+use Rattle.markup.specs.Escapes.{quote_mark, escape_value, escape_text, value_then, text_then, escaped_then}
 use Rattle.markup.specs.Attributes.{Attribute, attribute, attributes_then}
 use Rattle.markup.specs.Characters.{ZeroOrMore}
 use Rattle.markup.specs.Trees.{empty, character, element, Written, characters, is_empty}
 use Rattle.markup.specs.Renderings.{tag_end, render, encoded_attribute, encoded}
 use Rattle.markup.specs.Encodings.{EscapesOfBytes, FromBytes}
-use Rattle.markup.proofs.Classes.{T_of, test}
+use Rattle.markup.proofs.Classes.{T_of}
+use Rattle.markup.proofs.EscapesIn.{HasEscapes, value_in, text_in}
 
 abbrev pub low : ℕ → Bool
 low c = ltb c 128
@@ -60,77 +61,43 @@ high_text : (b : ℕ) → T (high b) → escape_text b ≡ b ∷ []
 high_text b h =
     simp (high_is_not b 38 h (omega arith), high_is_not b 60 h (omega arith), high_is_not b 62 h (omega arith), high_is_not b 13 h (omega arith))
 
-low_escape : (q : Quote) → ZeroOrMore low (escape_value q 38) × ZeroOrMore low (escape_value q 60) × ZeroOrMore low (escape_value q (quote_mark q)) × ZeroOrMore low (escape_value q 9) × ZeroOrMore low (escape_value q 10) × ZeroOrMore low (escape_value q 13)
-low_escape Double = ((tt, (tt, (tt, (tt, (tt, tt))))), (tt, (tt, (tt, (tt, tt)))), (tt, (tt, (tt, (tt, (tt, (tt, tt)))))), (tt, (tt, (tt, (tt, tt)))), (tt, (tt, (tt, (tt, (tt, tt))))), (tt, (tt, (tt, (tt, (tt, tt))))))
-low_escape Single = ((tt, (tt, (tt, (tt, (tt, tt))))), (tt, (tt, (tt, (tt, tt)))), (tt, (tt, (tt, (tt, (tt, (tt, tt)))))), (tt, (tt, (tt, (tt, tt)))), (tt, (tt, (tt, (tt, (tt, tt))))), (tt, (tt, (tt, (tt, (tt, tt))))))
+low_escapes : HasEscapes low
+low_escapes = record { amp = tt; lt = tt; gt = tt; quot = tt; apos = tt; tab = tt; feed = tt; return = tt }
 
 low_value : (q : Quote) (c : ℕ) → T (low c) → ZeroOrMore low (escape_value q c)
-low_value q c h =
-    let P : ℕ → Type 0 = λ v. ZeroOrMore low (escape_value q v) in
-    let k = low_escape q in
-    test P c 38 k.0 (λ e1.
-    test P c 60 k.1 (λ e2.
-    test P c (quote_mark q) k.2 (λ e3.
-    test P c 9 k.3 (λ e4.
-    test P c 10 k.4 (λ e5.
-    test P c 13 k.5 (λ e6.
-    simp (e1, e2, e3, e4, e5, e6) (h, tt)))))))
+low_value q c h = value_in low low_escapes q c (λ _. h)
 
 low_text : (c : ℕ) → T (low c) → ZeroOrMore low (escape_text c)
-low_text c h =
-    let P : ℕ → Type 0 = λ v. ZeroOrMore low (escape_text v) in
-    test P c 38 (tt, (tt, (tt, (tt, (tt, tt))))) (λ e1.
-    test P c 60 (tt, (tt, (tt, (tt, tt)))) (λ e2.
-    test P c 62 (tt, (tt, (tt, (tt, tt)))) (λ e3.
-    test P c 13 (tt, (tt, (tt, (tt, (tt, tt))))) (λ e4.
-    simp (e1, e2, e3, e4) (h, tt)))))
+low_text c h = text_in low low_escapes c (λ _. h)
 
 -- Any escape of that kind, over a text, followed by what comes after
 module _ (escape : ℕ → List ℕ) (highly : (b : ℕ) → T (high b) → escape b ≡ b ∷ []) (lowly : (c : ℕ) → T (low c) → ZeroOrMore low (escape c)) where
-  abbrev all_then : List ℕ → List ℕ → List ℕ
-  all_then [] rest = rest
-  all_then (c ∷ cs) rest = escape c ++ all_then cs rest
-
-  all_append : (a b rest : List ℕ) → all_then (a ++ b) rest ≡ all_then a (all_then b rest)
+  all_append : (a b rest : List ℕ) → escaped_then escape (a ++ b) rest ≡ escaped_then escape a (escaped_then escape b rest)
   all_append [] b rest = refl
   all_append (c ∷ a) b rest = ap (λ z. escape c ++ z) (all_append a b rest)
 
-  all_high : (bs rest : List ℕ) → ZeroOrMore high bs → all_then bs rest ≡ bs ++ rest
+  all_high : (bs rest : List ℕ) → ZeroOrMore high bs → escaped_then escape bs rest ≡ bs ++ rest
   all_high [] rest h = refl
-  all_high (b ∷ bs) rest h = ap (λ z. z ++ all_then bs rest) (highly b h.0) ∙ ap (λ z. b ∷ z) (all_high bs rest h.1)
+  all_high (b ∷ bs) rest h = rw (highly b h.0, all_high bs rest h.1)
 
-  one : (c : ℕ) (rest : List ℕ) → all_then (encode c) rest ≡ encodes (escape c) ++ rest
+  one : (c : ℕ) (rest : List ℕ) → escaped_then escape (encode c) rest ≡ encodes (escape c) ++ rest
   one c rest = go (ltb c 128) refl
     where
-      go : (b : Bool) → ltb c 128 ≡ b → all_then (encode c) rest ≡ encodes (escape c) ++ rest
-      go true e =
-          ap (λ z. all_then z rest) (encode_ascii c (ltb→lt c 128 (T_of e))) ∙ ap (λ z. z ++ rest) (sym (encodes_low (escape c) (lowly c (T_of e))))
+      go : (b : Bool) → ltb c 128 ≡ b → escaped_then escape (encode c) rest ≡ encodes (escape c) ++ rest
+      go true e = rw (encode_ascii c (ltb→lt c 128 (T_of e)), encodes_low (escape c) (lowly c (T_of e)))
       go false e =
           let h : T (high c) = le→leb 128 c (ltb-false c 128 e) in
-          all_high (encode c) rest (encode_high c e)
-          ∙ ap (λ z. z ++ rest) (sym (append-nil (encode c)) ∙ ap encodes (sym (highly c h)))
+          rw (all_high (encode c) rest (encode_high c e), highly c h, append-nil)
 
-  pub all_encoded : (cs rest : List ℕ) → all_then (encodes cs) (encodes rest) ≡ encodes (all_then cs rest)
+  pub all_encoded : (cs rest : List ℕ) → escaped_then escape (encodes cs) (encodes rest) ≡ encodes (escaped_then escape cs rest)
   all_encoded [] rest = refl
-  all_encoded (c ∷ cs) rest =
-      all_append (encode c) (encodes cs) (encodes rest)
-      ∙ ap (all_then (encode c)) (all_encoded cs rest)
-      ∙ one c (encodes (all_then cs rest))
-      ∙ sym (encodes-append (escape c) (all_then cs rest))
+  all_encoded (c ∷ cs) rest = rw (all_append (encode c) (encodes cs) (encodes rest), all_encoded cs rest, one, encodes-append)
 
 pub value_encoded : (q : Quote) (cs rest : List ℕ) → value_then q (encodes cs) (encodes rest) ≡ encodes (value_then q cs rest)
-value_encoded q cs rest = same (encodes cs) (encodes rest) ∙ all_encoded (escape_value q) (high_value q) (low_value q) cs rest ∙ ap encodes (sym (same cs rest))
-  where
-    same : (xs r : List ℕ) → value_then q xs r ≡ all_then (escape_value q) (high_value q) (low_value q) xs r
-    same [] r = refl
-    same (x ∷ xs) r = ap (λ z. escape_value q x ++ z) (same xs r)
+value_encoded q = all_encoded (escape_value q) (high_value q) (low_value q)
 
 pub text_encoded : (cs rest : List ℕ) → text_then (encodes cs) (encodes rest) ≡ encodes (text_then cs rest)
-text_encoded cs rest = same (encodes cs) (encodes rest) ∙ all_encoded escape_text high_text low_text cs rest ∙ ap encodes (sym (same cs rest))
-  where
-    same : (xs r : List ℕ) → text_then xs r ≡ all_then escape_text high_text low_text xs r
-    same [] r = refl
-    same (x ∷ xs) r = ap (λ z. escape_text x ++ z) (same xs r)
+text_encoded = all_encoded escape_text high_text low_text
 
 -- Attributes and forests
 

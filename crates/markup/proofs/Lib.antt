@@ -1,4 +1,5 @@
 pub mod Chains
+pub mod Maps
 pub mod Written
 pub mod JoinedLists
 pub mod Classes
@@ -7,6 +8,7 @@ pub mod Spans
 pub mod SameTags
 pub mod SameTexts
 pub mod OneMeaning
+pub mod EscapesIn
 pub mod LineEnds
 pub mod Encodings
 pub mod Renders

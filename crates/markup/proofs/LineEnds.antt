@@ -12,6 +12,7 @@ use Rattle.markup.specs.Trees.{empty, character, element, Written, is_empty, pla
 use Rattle.markup.specs.Renderings.{tag_end, render, written}
 use Rattle.markup.specs.Readings.{normal_line_ends, Reading, ReadsBack}
 use Rattle.markup.proofs.Classes.{both, or_T, and_T, test, or_first, or_second}
+use Rattle.markup.proofs.EscapesIn.{HasEscapes, value_in, text_in}
 use Rattle.markup.proofs.Exists.{made}
 use Rattle.markup.proofs.OneMeaning.{one_meaning}
 
@@ -71,31 +72,14 @@ clean_name (c ∷ n) h = (clean_start c h.0, clean_name_chars n h.1)
 clean_char : (c : ℕ) → T (is_char c) → eqb c 13 ≡ false → T (clean c)
 clean_char c h e = grind (arith, nat_tests)
 
-clean_text : (c : ℕ) → T (is_char c) → ZeroOrMore clean (escape_text c)
-clean_text c h =
-    let P : ℕ → Type 0 = λ v. ZeroOrMore clean (escape_text v) in
-    test P c 38 (tt, (tt, (tt, (tt, (tt, tt))))) (λ e1.
-    test P c 60 (tt, (tt, (tt, (tt, tt)))) (λ e2.
-    test P c 62 (tt, (tt, (tt, (tt, tt)))) (λ e3.
-    test P c 13 (tt, (tt, (tt, (tt, (tt, tt))))) (λ e4.
-    simp (e1, e2, e3, e4) (clean_char c h e4, tt)))))
+clean_escapes : HasEscapes clean
+clean_escapes = record { amp = tt; lt = tt; gt = tt; quot = tt; apos = tt; tab = tt; feed = tt; return = tt }
 
--- the escapes of a value, at each quote
-clean_escape : (q : Quote) → ZeroOrMore clean (escape_value q 38) × ZeroOrMore clean (escape_value q 60) × ZeroOrMore clean (escape_value q (quote_mark q)) × ZeroOrMore clean (escape_value q 9) × ZeroOrMore clean (escape_value q 10) × ZeroOrMore clean (escape_value q 13)
-clean_escape Double = ((tt, (tt, (tt, (tt, (tt, tt))))), (tt, (tt, (tt, (tt, tt)))), (tt, (tt, (tt, (tt, (tt, (tt, tt)))))), (tt, (tt, (tt, (tt, tt)))), (tt, (tt, (tt, (tt, (tt, tt))))), (tt, (tt, (tt, (tt, (tt, tt))))))
-clean_escape Single = ((tt, (tt, (tt, (tt, (tt, tt))))), (tt, (tt, (tt, (tt, tt)))), (tt, (tt, (tt, (tt, (tt, (tt, tt)))))), (tt, (tt, (tt, (tt, tt)))), (tt, (tt, (tt, (tt, (tt, tt))))), (tt, (tt, (tt, (tt, (tt, tt))))))
+clean_text : (c : ℕ) → T (is_char c) → ZeroOrMore clean (escape_text c)
+clean_text c h = text_in clean clean_escapes c (clean_char c h)
 
 clean_value_char : (q : Quote) (c : ℕ) → T (is_char c) → ZeroOrMore clean (escape_value q c)
-clean_value_char q c h =
-    let P : ℕ → Type 0 = λ v. ZeroOrMore clean (escape_value q v) in
-    let k = clean_escape q in
-    test P c 38 k.0 (λ e1.
-    test P c 60 k.1 (λ e2.
-    test P c (quote_mark q) k.2 (λ e3.
-    test P c 9 k.3 (λ e4.
-    test P c 10 k.4 (λ e5.
-    test P c 13 k.5 (λ e6.
-    simp (e1, e2, e3, e4, e5, e6) (clean_char c h e6, tt)))))))
+clean_value_char q c h = value_in clean clean_escapes q c (clean_char c h)
 
 clean_append : (a b : List ℕ) → ZeroOrMore clean a → ZeroOrMore clean b → ZeroOrMore clean (a ++ b)
 clean_append [] b h k = k
@@ -142,9 +126,6 @@ clean_scalar c h = grind (arith, nat_tests)
 clean_scalars : (cs : List ℕ) → ZeroOrMore clean cs → scalars cs ≡ true
 clean_scalars [] h = refl
 clean_scalars (c ∷ cs) h = rw (clean_scalar c h.0) (clean_scalars cs h.1)
-
-pub render_scalars : (m : Written) → WellFormed m → scalars (render m []) ≡ true
-render_scalars m w = clean_scalars _ (clean_render m [] w tt)
 
 pub reads_back : ReadsBack
 reads_back m w =

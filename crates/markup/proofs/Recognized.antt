@@ -14,12 +14,12 @@ use Rattle.markup.specs.Content.{Tag, TagStands, ETag, end_tag_then, ETagStands,
 use Rattle.markup.specs.Trees.{Read}
 use Rattle.markup.specs.Readings.{normal_line_ends, Reading}
 use Rattle.markup.specs.Checks.{are_distinct}
-use Rattle.markup.proofs.Classes.{T_of, and_T}
+use Rattle.markup.proofs.Classes.{T_of, true_of, and_T}
 use Rattle.markup.proofs.Spans.{Stops, each_space, space_stops, name_all}
 use Rattle.markup.proofs.SameTags.{specifications_stop}
 use Rattle.markup.proofs.Checks.{same_refl, distinct_tests}
 use Rattle.markup.proofs.Recognizer.{Brackets, none, one, two, text, less, tag_name, in_tag, attribute_name, before_equals, after_equals, in_value, after_value, end_name, after_end_name, ampersand, step, run, plausible}
-use Rattle.markup.proofs.RecognizedTexts.{Names, true_of, cond_true, cond_false, moves, stays, gathers, text_runs, data_then_less, data_then_ampersand, after_ampersand, reference_split, reference_runs, section_runs, comment_runs, pi_runs}
+use Rattle.markup.proofs.RecognizedTexts.{Names, cond_true, cond_false, moves, stays, gathers, text_runs, data_then_less, data_then_ampersand, after_ampersand, reference_split, reference_runs, section_runs, comment_runs, pi_runs}
 
 -- Start tags and empty-element tags
 

@@ -6,7 +6,8 @@ use Rattle.markup.specs.Characters.{is_char, is_space, is_name_char, is_digit, i
 use Rattle.markup.specs.CharacterReferences.{amp, lt, gt, quot, apos, Reference, entity_ref, decimal_ref, hexadecimal_ref, reference_then, ReferenceStands, digit_value, number_from}
 use Rattle.markup.specs.Content.{CharData, PI, small_letter, PITarget, PIText}
 use Rattle.markup.specs.Checks.{is_name}
-use Rattle.markup.proofs.Classes.{and_T, not_T, test}
+use Rattle.std.proofs.Math.Dec.{not_T}
+use Rattle.markup.proofs.Classes.{and_T, test}
 use Rattle.markup.proofs.Spans.{each_space, name_all}
 use Rattle.markup.proofs.SameTexts.{without_tail}
 use Rattle.markup.proofs.Checks.{same_is, name_tests}
@@ -14,10 +15,6 @@ use Rattle.markup.proofs.Recognizer.{Brackets, none, one, two, Mode, text, less,
 
 abbrev pub Names : Type 0
 Names = List (List ℕ)
-
-pub true_of : (b : Bool) → T b → b ≡ true
-true_of true h = refl
-true_of false h = elim h [ ]
 
 pub cond_true : {A : Type 0} (b : Bool) (x y : A) → T b → cond b x y ≡ x
 cond_true true x y h = refl

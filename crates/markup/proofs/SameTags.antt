@@ -6,7 +6,8 @@ use Rattle.markup.specs.Escapes.{quote_mark}
 use Rattle.markup.specs.Characters.{ZeroOrMore, OneOrMore, Name, is_space, is_data_but, is_name_start, is_name_char}
 use Rattle.markup.specs.AttributeSpecifications.{ValuePiece, literal, referring, pieces_then, PiecesStand, normalized, Specification, specifications_then, SpecificationsStand, specified}
 use Rattle.markup.specs.Content.{Tag, tag_then, TagStands}
-use Rattle.markup.proofs.Classes.{not_in, not_T}
+use Rattle.std.proofs.Math.Dec.{not_T}
+use Rattle.markup.proofs.Classes.{not_in}
 use Rattle.markup.proofs.Spans.{head_same, tail_same, clash, Stops, span, some_is_many, reference_same, reference_head, name_all, each_space, space_stops, name_head}
 
 -- a quote is neither & nor in the value it stands around

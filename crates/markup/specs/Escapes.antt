@@ -3,6 +3,7 @@
 use Rattle.std.specs.Prelude.{ℕ, cond, List, [], ◌∷◌, ◌++◌, codes, ◌==◌}
 use Rattle.markup.specs.declared.quotes.Quote.{Quote}
 use Rattle.markup.specs.declared.quotes.Quote.TheVariants.{Double, Single}
+use Rattle.markup.specs.Pens.{PenState, after}
 
 -- the quote around a value, and what stands for it inside
 abbrev pub quote_mark : Quote → ℕ
@@ -31,11 +32,18 @@ escape_text c =
     (cond (c == 62) (codes "&gt;")
     (cond (c == 13) (codes "&#13;") (c ∷ []))))
 
--- a whole value and a whole text, each followed by what comes after
+-- a whole text, followed by what comes after
+abbrev pub escaped_then : (ℕ → List ℕ) → List ℕ → List ℕ → List ℕ
+escaped_then escape [] rest = rest
+escaped_then escape (c ∷ cs) rest = escape c ++ escaped_then escape cs rest
+
+-- of a value, and between tags
 abbrev pub value_then : Quote → List ℕ → List ℕ → List ℕ
-value_then q [] rest = rest
-value_then q (c ∷ cs) rest = escape_value q c ++ value_then q cs rest
+value_then q = escaped_then (escape_value q)
 
 abbrev pub text_then : List ℕ → List ℕ → List ℕ
-text_then [] rest = rest
-text_then (c ∷ cs) rest = escape_text c ++ text_then cs rest
+text_then = escaped_then escape_text
+
+-- a pen after a whole text; shut, so that a goal has the text and not its bytes
+unfoldable pub after_escaped : PenState → (ℕ → List ℕ) → List ℕ → PenState
+after_escaped s escape text = after s (escaped_then escape text [])

@@ -3,44 +3,37 @@
 ghost use Rattle.std.specs.Prelude.{◌≡◌, ◌<◌};
 ghost use Rattle.markup.specs.Colors.{hex_digit, hex_color};
 
-use crate::escapes::write_value;
-use crate::pens::Pen;
+use crate::escapes::Escaped;
 use crate::quotes::Quote;
 use crate::values::Shown;
+use drawing::rows::Color;
 use stores::Store;
 
-/// A colour by its three parts.
-#[derive(Clone, Copy)]
-pub struct Rgb {
-    pub red: u8,
-    pub green: u8,
-    pub blue: u8,
-}
-
-fn hex(digit: u8) -> u8
-    requires { digit < 16 }
-    ensures { result ≡ hex_digit digit }
+/// The small hexadecimal digit of a number.
+pub fn hex_digit(number: u8) -> u8
+    requires { number < 16 }
+    ensures { result ≡ hex_digit number }
 {
-    if digit < 10 {
-        b'0' + digit
+    if number < 10 {
+        b'0' + number
     } else {
-        b'a' + (digit - 10)
+        b'a' + (number - 10)
     }
 }
 
-impl Shown for Rgb {
-    ghost shown = { λ v. hex_color v.red v.green v.blue };
+impl Shown for Color {
+    ghost shown = { λ c. hex_color c.red c.green c.blue };
 
-    fn show<S: Store>(&self, pen: &mut Pen<S>, quote: Quote) {
-        let text = [
+    fn show<S: Store>(&self, out: &mut Escaped<'_, S, Quote>) {
+        // Kept: as the definition has it; a loop over the three parts is no shorter and wants an invariant.
+        out.write(&[
             b'#',
-            hex(self.red / 16),
-            hex(self.red % 16),
-            hex(self.green / 16),
-            hex(self.green % 16),
-            hex(self.blue / 16),
-            hex(self.blue % 16),
-        ];
-        write_value(pen, quote, &text);
+            hex_digit(self.red / 16),
+            hex_digit(self.red % 16),
+            hex_digit(self.green / 16),
+            hex_digit(self.green % 16),
+            hex_digit(self.blue / 16),
+            hex_digit(self.blue % 16),
+        ]);
     }
 }

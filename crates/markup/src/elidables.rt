@@ -2,18 +2,19 @@
 
 ghost use Rattle.std.specs.Prelude.{◌≡◌, Bool, []};
 ghost use Rattle.std.specs.Float.Ieee.{eq};
+ghost use Rattle.std.specs.Str.{bytes_eq};
 ghost use Rattle.markup.specs.Attributes.{attribute, attributes_then, unless};
-ghost use Rattle.markup.specs.Numbers.{shown_bare};
 ghost use Rattle.markup.specs.Pens.{after};
 ghost use Rattle.markup.specs.State.{state};
 
 use crate::attributes::write_attribute;
-use crate::escapes::write_value;
+use crate::escapes::Escaped;
 use crate::pens::Pen;
 use crate::quotes::Quote;
-use crate::values::Shown;
+use crate::values::{Fixed, Shown};
 use stores::Store;
 
+/// A value with a default.
 pub trait Elidable: Shown {
     ghost plain: { Self → Bool };
 
@@ -36,48 +37,37 @@ pub fn write_unless_default<S: Store, V: Elidable>(
     }
 }
 
-/// A bare number with its default.
-#[derive(Clone, Copy)]
-pub struct Number {
-    pub value: f32,
-    pub default: f32,
+/// A value, and the one that is left out.
+#[derive(Clone, Copy, PartialEq, Eq, Debug)]
+pub struct WithDefault<V> {
+    pub value: V,
+    pub default: V,
 }
 
-impl Shown for Number {
-    ghost shown = { λ v. shown_bare v.value };
+/// A bare number with its default.
+pub type Number = WithDefault<f32>;
 
-    fn show<S: Store>(&self, pen: &mut Pen<S>, quote: Quote) {
-        self.value.show(pen, quote);
+/// A keyword, and the one that is left out.
+pub type Keyword = WithDefault<Fixed<'static>>;
+
+impl<V: Shown> Shown for WithDefault<V> {
+    ghost shown = { λ v. V.Shown.shown v.value };
+
+    fn show<S: Store>(&self, out: &mut Escaped<'_, S, Quote>) {
+        self.value.show(out);
     }
 }
 
-impl Elidable for Number {
-    ghost plain = { λ v. eq v.value v.default };
+impl<V: Shown + PartialEq> Elidable for WithDefault<V> {
+    ghost plain = { λ v. V.PartialEq.eq v.value v.default };
 
     fn is_default(&self) -> bool {
         self.value == self.default
     }
 }
 
-/// A keyword, and whether it is the one that is left out.
-#[derive(Clone, Copy)]
-pub struct Keyword {
-    pub word: &'static [u8],
-    pub is_default: bool,
-}
-
-impl Shown for Keyword {
-    ghost shown = { λ v. v.word.now };
-
-    fn show<S: Store>(&self, pen: &mut Pen<S>, quote: Quote) {
-        write_value(pen, quote, self.word);
-    }
-}
-
-impl Elidable for Keyword {
-    ghost plain = { λ v. v.is_default };
-
-    fn is_default(&self) -> bool {
-        self.is_default
-    }
-}
+/// A number is left out where it equals its default as a float does, and a keyword where it is the same word.
+pub fn defaults_stand()
+    ensures numbers { (v : _) → ⟦<WithDefault<f32> as Elidable>⟧.plain v ≡ eq v.value v.default }
+    ensures keywords { (v : _) → ⟦<WithDefault<Fixed<'static>> as Elidable>⟧.plain v ≡ bytes_eq v.value.0.now v.default.0.now }
+{}

@@ -3,14 +3,13 @@
 ghost use Rattle.std.specs.Prelude.{◌≡◌};
 ghost use Rattle.markup.specs.Lists.{joined_by};
 
-use crate::escapes::write_value;
-use crate::pens::Pen;
+use crate::escapes::Escaped;
 use crate::quotes::Quote;
 use crate::values::Shown;
 use stores::Store;
 
 /// Values one after the other, with the separator between two of them.
-#[derive(Clone, Copy)]
+#[derive(Clone, Copy, PartialEq, Eq, Debug)]
 pub struct Joined<'a, V> {
     pub items: &'a [V],
     pub separator: &'static [u8],
@@ -19,12 +18,13 @@ pub struct Joined<'a, V> {
 impl<'a, V: Shown> Shown for Joined<'a, V> {
     ghost shown = { λ v. joined_by v.separator.now V.Shown.shown v.items.now };
 
-    fn show<S: Store>(&self, pen: &mut Pen<S>, quote: Quote) {
-        for i in 0..self.items.len() {
-            if i > 0 {
-                write_value(pen, quote, self.separator);
+    fn show<S: Store>(&self, out: &mut Escaped<'_, S, Quote>) {
+        if let Some((first, further)) = self.items.split_first() {
+            first.show(out);
+            for item in further {
+                out.write(self.separator);
+                item.show(out);
             }
-            self.items[i].show(pen, quote);
         }
     }
 }

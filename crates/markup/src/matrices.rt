@@ -1,81 +1,68 @@
 //! Matrices: `matrix(` and six rounded numbers, joined by spaces, and `)`.
 
-ghost use Rattle.std.specs.Prelude.{◌≡◌, ◌&&◌, [], ◌∷◌};
-ghost use Rattle.std.specs.Float.{binary32};
-ghost use Rattle.std.specs.Float.Ieee.{of_bits, eq};
-ghost use Rattle.markup.specs.Matrices.{matrix_text, is_identity};
+ghost use Rattle.std.specs.Prelude.{◌≡◌, map};
+ghost use Rattle.markup.specs.Matrices.{matrix_text, is_identity, numbers_of, rounded_at};
 
 use crate::elidables::Elidable;
-use crate::escapes::write_value;
+use crate::escapes::Escaped;
 use crate::lists::Joined;
 use crate::numbers::Rounded;
-use crate::pens::Pen;
 use crate::quotes::Quote;
 use crate::values::Shown;
+use drawing::rows::Transform;
 use stores::Store;
 
-/// A transform, to be shown at a precision. The numbers stand in the order in which they are shown.
+/// A transform, to be shown at a precision.
 #[derive(Clone, Copy)]
 pub struct Matrix {
-    pub sx: f32,
-    pub ky: f32,
-    pub kx: f32,
-    pub sy: f32,
-    pub tx: f32,
-    pub ty: f32,
+    pub transform: Transform,
     pub precision: u8,
 }
 
-impl Shown for Matrix {
-    ghost shown = { λ m. matrix_text m.precision (m.sx ∷ m.ky ∷ m.kx ∷ m.sy ∷ m.tx ∷ m.ty ∷ []) };
-
-    fn show<S: Store>(&self, pen: &mut Pen<S>, quote: Quote) {
+impl Matrix {
+    /// The six numbers, in the order in which they are shown.
+    fn numbers(&self) -> [Rounded; 6]
+        ensures { result ≡ map (rounded_at self.now.precision) (numbers_of self.now.transform) }
+    {
         let precision = self.precision;
-        let numbers = [
-            Rounded {
-                value: self.sx,
-                precision,
-            },
-            Rounded {
-                value: self.ky,
-                precision,
-            },
-            Rounded {
-                value: self.kx,
-                precision,
-            },
-            Rounded {
-                value: self.sy,
-                precision,
-            },
-            Rounded {
-                value: self.tx,
-                precision,
-            },
-            Rounded {
-                value: self.ty,
-                precision,
-            },
-        ];
-        write_value(pen, quote, b"matrix(");
+        let Transform {
+            sx,
+            ky,
+            kx,
+            sy,
+            tx,
+            ty,
+        } = self.transform;
+        [sx, ky, kx, sy, tx, ty].map(|value| Rounded { value, precision })
+    }
+}
+
+impl Shown for Matrix {
+    ghost shown = { λ m. matrix_text m.precision (numbers_of m.transform) };
+
+    fn show<S: Store>(&self, out: &mut Escaped<'_, S, Quote>) {
+        out.write(b"matrix(");
         Joined {
-            items: &numbers,
+            items: &self.numbers(),
             separator: b" ",
         }
-        .show(pen, quote);
-        write_value(pen, quote, b")");
+        .show(out);
+        out.write(b")");
     }
 }
 
 impl Elidable for Matrix {
-    ghost plain = { λ m. is_identity m.sx m.ky m.kx m.sy m.tx m.ty };
+    ghost plain = { λ m. let t = m.transform in is_identity t.sx t.ky t.kx t.sy t.tx t.ty };
 
     fn is_default(&self) -> bool {
-        self.sx == 1.0
-            && self.ky == 0.0
-            && self.kx == 0.0
-            && self.sy == 1.0
-            && self.tx == 0.0
-            && self.ty == 0.0
+        let Transform {
+            sx,
+            ky,
+            kx,
+            sy,
+            tx,
+            ty,
+        } = self.transform;
+        [sx, ky, kx, sy, tx, ty] == [1.0, 0.0, 0.0, 1.0, 0.0, 0.0]
     }
 }

@@ -3,7 +3,8 @@
 ghost use Rattle.std.specs.Prelude.{◌≡◌};
 ghost use Rattle.markup.specs.Escapes.{quote_mark, quote_entity};
 
-#[derive(Clone, Copy)]
+/// The quote around a value.
+#[derive(Clone, Copy, PartialEq, Eq, Debug)]
 pub enum Quote {
     Double,
     Single,

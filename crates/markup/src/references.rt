@@ -2,14 +2,13 @@
 
 ghost use Rattle.std.specs.Prelude.{◌≡◌, ◌++◌, codes};
 
-use crate::escapes::write_value;
-use crate::pens::Pen;
+use crate::escapes::Escaped;
 use crate::quotes::Quote;
 use crate::values::Shown;
 use stores::Store;
 
 /// An id with the prefix of its call before it.
-#[derive(Clone, Copy)]
+#[derive(Clone, Copy, PartialEq, Eq, Debug)]
 pub struct PrefixedId<'p, 'i> {
     pub prefix: &'p [u8],
     pub id: &'i [u8],
@@ -18,43 +17,36 @@ pub struct PrefixedId<'p, 'i> {
 impl<'p, 'i> Shown for PrefixedId<'p, 'i> {
     ghost shown = { λ v. v.prefix.now ++ v.id.now };
 
-    fn show<S: Store>(&self, pen: &mut Pen<S>, quote: Quote) {
-        write_value(pen, quote, self.prefix);
-        write_value(pen, quote, self.id);
+    fn show<S: Store>(&self, out: &mut Escaped<'_, S, Quote>) {
+        out.write(self.prefix);
+        out.write(self.id);
     }
 }
 
 /// A reference to a paint, a clip path, a mask or a filter: `url(#id)`.
-#[derive(Clone, Copy)]
-pub struct FuncIri<'p, 'i> {
-    pub prefix: &'p [u8],
-    pub id: &'i [u8],
-}
+#[derive(Clone, Copy, PartialEq, Eq, Debug)]
+pub struct FuncIri<'p, 'i>(pub PrefixedId<'p, 'i>);
 
 impl<'p, 'i> Shown for FuncIri<'p, 'i> {
-    ghost shown = { λ v. codes "url(#" ++ (v.prefix.now ++ (v.id.now ++ codes ")")) };
+    ghost shown = { λ v. codes "url(#" ++ (v.0.prefix.now ++ (v.0.id.now ++ codes ")")) };
 
-    fn show<S: Store>(&self, pen: &mut Pen<S>, quote: Quote) {
-        write_value(pen, quote, b"url(#");
-        write_value(pen, quote, self.prefix);
-        write_value(pen, quote, self.id);
-        write_value(pen, quote, b")");
+    fn show<S: Store>(&self, out: &mut Escaped<'_, S, Quote>) {
+        out.write(b"url(#");
+        self.0.show(out);
+        out.write(b")");
     }
 }
 
+// Kept: a type for each, since one with the texts around the id as fields would be no shorter and would take any texts.
 /// A link to an element: `#id`.
-#[derive(Clone, Copy)]
-pub struct Iri<'p, 'i> {
-    pub prefix: &'p [u8],
-    pub id: &'i [u8],
-}
+#[derive(Clone, Copy, PartialEq, Eq, Debug)]
+pub struct Iri<'p, 'i>(pub PrefixedId<'p, 'i>);
 
 impl<'p, 'i> Shown for Iri<'p, 'i> {
-    ghost shown = { λ v. codes "#" ++ (v.prefix.now ++ v.id.now) };
+    ghost shown = { λ v. codes "#" ++ (v.0.prefix.now ++ v.0.id.now) };
 
-    fn show<S: Store>(&self, pen: &mut Pen<S>, quote: Quote) {
-        write_value(pen, quote, b"#");
-        write_value(pen, quote, self.prefix);
-        write_value(pen, quote, self.id);
+    fn show<S: Store>(&self, out: &mut Escaped<'_, S, Quote>) {
+        out.write(b"#");
+        self.0.show(out);
     }
 }

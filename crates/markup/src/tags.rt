@@ -12,9 +12,10 @@ ghost use Rattle.markup.specs.Elements.{name_of, has_content, ending};
 ghost use Rattle.markup.specs.Escapes.{text_then};
 
 use crate::attributes::write_attribute;
+use crate::escapes::Escaped;
 use crate::pens::Pen;
 use crate::quotes::Quote;
-use crate::texts::write_text;
+use crate::texts::Content;
 use crate::values::Shown;
 use stores::Store;
 
@@ -74,11 +75,11 @@ impl Tag {
         ensures turned { has_content result ≡ nat_lt 0 (length text.now) }
         ensures wrote { state S.Store pen.new ≡ after (state S.Store pen.old) (first_text text.now) }
     {
-        if text.len() == 0 {
+        if text.is_empty() {
             return Begun::Tag(self);
         }
         let body = self.body(pen);
-        write_text(pen, text);
+        body.text(pen, text);
         Begun::Body(body)
     }
 
@@ -96,7 +97,11 @@ impl Body {
     pub fn text<S: Store>(&self, pen: &mut Pen<S>, text: &[u8])
         ensures { state S.Store pen.new ≡ after (state S.Store pen.old) (text_then text.now []) }
     {
-        write_text(pen, text);
+        Escaped {
+            pen,
+            escape: Content,
+        }
+        .write(text);
     }
 
     /// Ends the element.

@@ -1,5 +1,5 @@
 pub mod Meaning
 pub mod Reach
-pub mod Sheets
+pub mod Seen
 pub mod Pages
 pub mod Rolls

@@ -2,7 +2,7 @@
 -- zeros fill the rest; a record is full before the next begins.
 use Rattle.std.specs.Prelude.{◌≡◌, ℕ, zero, suc, ◌-◌, ◌*◌, ◌/◌, ◌%◌, ◌≤◌, List, [], ◌∷◌, ◌++◌, length, take, drop, slice_index}
 use Rattle.stores.specs.Reach.{reach}
-use Rattle.stores.specs.Sheets.{Sheet, size_of}
+use Rattle.stores.specs.Seen.{Seen, size_of}
 use Rattle.stores.specs.Pages.{zeros}
 
 -- Writing: the record of a text of at most 63 bytes, and the image of n records that hold a text.
@@ -32,7 +32,7 @@ abbrev pub RollReadsBack : Type 0
 RollReadsBack = (n : ℕ) (held beyond : List ℕ) → length held ≤ 63 * n → roll_text n (roll_image n held ++ beyond) ≡ held
 
 -- how many records a roll has, by its size
-abbrev pub records_of : Sheet → ℕ
+abbrev pub records_of : Seen → ℕ
 records_of s = size_of s / 63
 
 -- what is true of every roll's fields

@@ -7,7 +7,7 @@
 //! out in a caller's buffer.
 #![tactic(auto)]
 
-ghost use Rattle.std.specs.Prelude.{◌≡◌, ℕ, ◌≤◌, List, length};
+ghost use Rattle.std.specs.Prelude.{◌≡◌, ℕ, ◌≤◌, List, [], length};
 ghost use Rattle.stores.specs.Meaning.{Put, Cut, ByteAt};
 
 mod buffers;
@@ -29,7 +29,7 @@ pub trait Store {
 
     ghost capacity: { Self → ℕ };
 
-    ghost beyond: { Self → List ℕ };
+    ghost beyond: { Self → List ℕ } = { λ _. [] };
 
     ghost within: { (s : Self) → length (held s) ≤ capacity s };
 

@@ -4,7 +4,7 @@
 
 ghost use Rattle.std.specs.Prelude.{◌≡◌, drop};
 ghost use Rattle.stores.specs.Reach.{reach};
-ghost use Rattle.stores.specs.Sheets.{size_of, empty_sheet, sheet_within};
+ghost use Rattle.stores.specs.Seen.{size_of, seen_empty, seen_within};
 ghost use Rattle.stores.specs.Pages.{page_image};
 
 use crate::buffers::{clear, reach_of};
@@ -22,10 +22,10 @@ pub struct Page<'a> {
 
 impl<'a> Model for Page<'a> {
     ghost use Rattle.std.specs.Prelude.{◌-◌, take, drop};
-    ghost use Rattle.stores.specs.Sheets.{Sheet};
+    ghost use Rattle.stores.specs.Seen.{Seen};
     ghost use Rattle.stores.specs.Pages.{IsPage};
 
-    ghost Value = { Sheet };
+    ghost Value = { Seen };
 
     ghost view = { λ p. record { held = take p.len p.buffer.now; room = p.size - p.len; beyond = drop p.size p.buffer.now } };
 
@@ -35,7 +35,7 @@ impl<'a> Model for Page<'a> {
 impl<'a> Page<'a> {
     /// An empty page over a buffer.
     pub fn new(buffer: &'a mut [u8]) -> Page<'a>
-        ensures { result ≡ empty_sheet (reach buffer.old) (drop (reach buffer.old) buffer.old) }
+        ensures { result ≡ seen_empty (reach buffer.old) (drop (reach buffer.old) buffer.old) }
     {
         let size = reach_of(buffer);
         clear(buffer, size);
@@ -69,7 +69,7 @@ impl<'a> Store for Page<'a> {
 
     ghost beyond = { λ p. p.beyond };
 
-    ghost within = { sheet_within };
+    ghost within = { seen_within };
 
     fn put(&mut self, byte: u8) -> Result<(), Full> {
         if self.len >= self.size {

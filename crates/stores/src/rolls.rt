@@ -5,7 +5,7 @@
 
 ghost use Rattle.std.specs.Prelude.{◌≡◌, ℕ, ◌+◌, ◌*◌, ◌/◌, ◌%◌, ◌<◌, ◌++◌, length, drop};
 ghost use Rattle.stores.specs.Reach.{reach};
-ghost use Rattle.stores.specs.Sheets.{size_of, empty_sheet, sheet_within};
+ghost use Rattle.stores.specs.Seen.{size_of, seen_empty, seen_within};
 ghost use Rattle.stores.specs.Rolls.{records_of, roll_image, read_roll, RollReadsBack};
 
 use crate::buffers::{clear, reach_of};
@@ -18,7 +18,7 @@ const RECORD: usize = 64;
 const TEXT: usize = 63;
 
 // Kept: a length beside the buffer, which the caller lends, since the library has no heap.
-// Kept: a struct beside `Page`, with which it shares what callers see (`Sheet`), but not one step of put, cut or byte.
+// Kept: a struct beside `Page`, with which it shares what callers see (`Seen`), but not one step of put, cut or byte.
 /// A roll over a buffer that is lent.
 #[derive(Drop)]
 pub struct Roll<'a> {
@@ -29,10 +29,10 @@ pub struct Roll<'a> {
 
 impl<'a> Model for Roll<'a> {
     ghost use Rattle.std.specs.Prelude.{◌-◌, ◌*◌, drop};
-    ghost use Rattle.stores.specs.Sheets.{Sheet};
+    ghost use Rattle.stores.specs.Seen.{Seen};
     ghost use Rattle.stores.specs.Rolls.{roll_text, IsRoll};
 
-    ghost Value = { Sheet };
+    ghost Value = { Seen };
 
     ghost view = { λ r. record { held = roll_text r.records r.buffer.now; room = 63 * r.records - r.len; beyond = drop (64 * r.records) r.buffer.now } };
 
@@ -52,7 +52,7 @@ fn spot(place: usize) -> (usize, usize)
 impl<'a> Roll<'a> {
     /// An empty roll over a buffer.
     pub fn new(buffer: &'a mut [u8]) -> Roll<'a>
-        ensures { result ≡ empty_sheet (63 * (reach buffer.old / 64)) (drop (64 * (reach buffer.old / 64)) buffer.old) }
+        ensures { result ≡ seen_empty (63 * (reach buffer.old / 64)) (drop (64 * (reach buffer.old / 64)) buffer.old) }
     {
         let records = reach_of(buffer) / RECORD;
         clear(buffer, RECORD * records);
@@ -88,7 +88,7 @@ impl<'a> Store for Roll<'a> {
 
     ghost beyond = { λ r. r.beyond };
 
-    ghost within = { sheet_within };
+    ghost within = { seen_within };
 
     fn put(&mut self, byte: u8) -> Result<(), Full> {
         if self.len >= TEXT * self.records {

@@ -1,20 +1,7 @@
-use Rattle.std.proofs.Common.{◌≡◌, [], ap, ◌∙◌}
-use Rattle.digits.specs.Numerals.{text_of}
+use Rattle.std.proofs.Common.{ap}
 use Rattle.markup.specs.Numbers.{text_or_none, shown_rounded}
-use Rattle.markup.specs.Pens.{after}
-use Rattle.markup.specs.State.{state}
-use Rattle.markup.specs.Escapes.{value_then}
 use Rattle.markup.proofs.numbers.RoundedShown.show.Goals as goal
 
-pub returns-in-Ok : goal.returns-in-Ok
+pub returns-clause-wrote : goal.returns-clause-wrote
 unfolding shown_rounded
-returns-in-Ok g c =
-    let before = state g.S.Store c.args.pen.now in
-    let e : text_of c.in-Ok.numeral ≡ shown_rounded c.args.self.now.precision c.args.self.now.value = ap text_or_none c.in-Ok.ensures in
-    c.write_value.ensures ∙ ap (λ text. after before (value_then c.args.quote text [])) (c.text.ensures ∙ e)
-
-pub returns-in-Err : goal.returns-in-Err
-unfolding shown_rounded
-returns-in-Err g c =
-    let before = state g.S.Store c.args.pen.now in
-    ap (λ text. after before (value_then c.args.quote text [])) (ap text_or_none c.in-Err.ensures)
+returns-clause-wrote g c = cc (ap text_or_none c.rounded.ensures)

@@ -1,0 +1,13 @@
+use Rattle.std.proofs.Common.{rules}
+use Rattle.std.proofs.lemmas.List.{take_all}
+use Rattle.markup.proofs.Written.{escaped_none, escaped_more}
+use Rattle.markup.proofs.escapes.Escaped.write.Goals as goal
+
+pub loop-byte-init : goal.loop-byte-init
+loop-byte-init g c = search (rules, escaped_none)
+
+pub loop-byte-preserved : goal.loop-byte-preserved
+loop-byte-preserved g c = search (rules, escaped_more)
+
+pub returns : goal.returns
+returns g c = search (rules, take_all)
