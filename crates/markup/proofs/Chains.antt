@@ -1,4 +1,4 @@
--- Laws of a pen: writing part by part is writing the whole, and a settled call wrote all of its bytes or none.
+-- Laws of a pen: writing part by part is writing the whole.
 use Rattle.std.proofs.Common.{◌≡◌, ℕ, ◌+◌, ◌-◌, ◌<◌, ◌≤◌, Bool, true, false, cond, leb, List, [], ◌∷◌, ◌++◌, length, take, sym, refl, ap, ◌∙◌, ⊎_elim, arith, length-append, le-ltb, lt-ltb, le-leb}
 use borrow.Author.Tests.{lt-leb}
 use Rattle.std.proofs.lemmas.List.{append-nil, append_assoc, take_at, length_push}
@@ -68,83 +68,9 @@ after_lost s (b ∷ x) l h =
     (λ (k : s.capacity ≤ length s.held). ap (λ (z : PenState). z.lost) (after_full s b x k))
     (cases_lt (length s.held) s.capacity)
 
--- A call: from nothing lost, it wrote x, and then it was settled with n bytes owed.
-
-pub leb_sum : (h r x n : ℕ) → h + x ≤ r → leb n (r - (h + x)) ≡ leb (h + x + n) r
-leb_sum h r x n l =
-    ⊎_elim
-    (λ (k : r < h + x + n). let a : leb n (r - (h + x)) ≡ false = lt-leb _ _ (omega arith) in let b : leb (h + x + n) r ≡ false = lt-leb _ _ k in a ∙ sym b)
-    (λ (k : h + x + n ≤ r). let a : leb n (r - (h + x)) ≡ true = le-leb _ _ (omega arith) in let b : leb (h + x + n) r ≡ true = le-leb _ _ k in a ∙ sym b)
-    (cases_lt r (h + x + n))
-
-pub record Settled (h : List ℕ) (r : ℕ) (x : List ℕ) (n : ℕ) : Type 0 where
-  pub told : fits (after (pen h r false) x) n ≡ leb (length (h ++ x) + n) r
-  pub held : (settled (after (pen h r false) x) (length h) n).held ≡ cond (leb (length (h ++ x) + n) r) (h ++ x) h
-  pub capacity : (settled (after (pen h r false) x) (length h) n).capacity ≡ r
-  pub clean : (settled (after (pen h r false) x) (length h) n).lost ≡ false
-  pub long : length h ≤ length (after (pen h r false) x).held
-
-pub settles : (h : List ℕ) (r : ℕ) (x : List ℕ) (n : ℕ) → length h ≤ r → Settled h r x n
-settles h r x n l =
-    ⊎_elim
-    (λ (k : r < length h + length x).
-    let t = after (pen h r false) x in
-    let b : leb (length (h ++ x) + n) r ≡ false = lt-leb _ _ (simp length-append (omega arith)) in
-    let a = after_lost (pen h r false) x l k in
-    let f : fits t n ≡ false = rw a in
-    record {
-      told = f ∙ sym b;
-      held = ap (λ z. (cond z t (pen (take (length h) t.held) t.capacity false)).held) f ∙ after_front (pen h r false) x ∙ ap (λ z. cond z (h ++ x) h) (sym b);
-      capacity = ap (λ z. (cond z t (pen (take (length h) t.held) t.capacity false)).capacity) f ∙ after_capacity (pen h r false) x;
-      clean = ap (λ z. (cond z t (pen (take (length h) t.held) t.capacity false)).lost) f;
-      long = let p = after_held (pen h r false) x in rw p.1 (simp length-append (omega arith));
-    })
-    (λ (k : length h + length x ≤ r).
-    let t = after (pen h r false) x in
-    let e = after_fits (pen h r false) x k in
-    let s = leb_sum (length h) r (length x) n k in
-    let f : fits t n ≡ leb (length (h ++ x) + n) r = rw e (simp length-append s) in
-    record {
-      told = f;
-      held = ap (λ z. (cond z t (pen (take (length h) t.held) t.capacity false)).held) f ∙ pick (leb (length (h ++ x) + n) r) t _ _ _ (ap (λ (z : PenState). z.held) e) (after_front (pen h r false) x);
-      capacity = ap (λ z. (cond z t (pen (take (length h) t.held) t.capacity false)).capacity) f ∙ same (leb (length (h ++ x) + n) r) t _ _ (after_capacity (pen h r false) x) (after_capacity (pen h r false) x);
-      clean = ap (λ z. (cond z t (pen (take (length h) t.held) t.capacity false)).lost) f ∙ never (leb (length (h ++ x) + n) r) t _ (ap (λ (z : PenState). z.lost) e) refl;
-      long = let p = after_held (pen h r false) x in rw p.1 (simp length-append (omega arith));
-    })
-    (cases_lt r (length h + length x))
-  where
-    pick : (b : Bool) (t u : PenState) (x y : List ℕ) → t.held ≡ x → u.held ≡ y → (cond b t u).held ≡ cond b x y
-    pick true t u x y e f = e
-    pick false t u x y e f = f
-
-    never : (b : Bool) (t u : PenState) → t.lost ≡ false → u.lost ≡ false → (cond b t u).lost ≡ false
-    never true t u e f = e
-    never false t u e f = f
-
-    same : (b : Bool) (t u : PenState) (r : ℕ) → t.capacity ≡ r → u.capacity ≡ r → (cond b t u).capacity ≡ r
-    same true t u r e f = e
-    same false t u r e f = f
+pub after_split : (s : PenState) (x y : List ℕ) → after s (x ++ y) ≡ after (after s x) y
+after_split s x y = sym (after_after s x y)
 
 -- parts that make up y
 pub parts : (s : PenState) (xs : List (List ℕ)) (y : List ℕ) → joined xs ≡ y → afters s xs ≡ after s y
 parts s xs y e = afters_joined s xs ∙ ap (after s) e
-
--- the same, from what the writers and `settle` ensure: t after the writing, u after the settling, b the answer
-pub record Commit (h : List ℕ) (r : ℕ) (x : List ℕ) (n : ℕ) (b : Bool) (u : PenState) : Type 0 where
-  pub told : b ≡ leb (length (h ++ x) + n) r
-  pub held : u.held ≡ cond (leb (length (h ++ x) + n) r) (h ++ x) h
-  pub capacity : u.capacity ≡ r
-  pub clean : u.lost ≡ false
-
-pub commits : (h : List ℕ) (r : ℕ) (x : List ℕ) (n m : ℕ) (b : Bool) (t u : PenState) → length h ≤ r → t ≡ after (pen h r false) x → m ≡ length h → b ≡ fits t n → (m ≤ length t.held → u ≡ settled t m n) → Commit h r x n b u
-commits h r x n m b t u l e f k q =
-    let s = settles h r x n l in
-    let z : u ≡ settled (after (pen h r false) x) (length h) n =
-    q (rw (e, f) s.long) ∙ ap (λ v. settled v m n) e ∙ ap (λ v. settled (after (pen h r false) x) v n) f
-    in
-    record {
-      told = k ∙ ap (λ v. fits v n) e ∙ s.told;
-      held = ap (λ (v : PenState). v.held) z ∙ s.held;
-      capacity = ap (λ (v : PenState). v.capacity) z ∙ s.capacity;
-      clean = ap (λ (v : PenState). v.lost) z ∙ s.clean;
-    }

@@ -1,5 +1,6 @@
 pub mod Chains
 pub mod Maps
+pub mod Calls
 pub mod Written
 pub mod JoinedLists
 pub mod Classes

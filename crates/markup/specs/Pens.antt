@@ -1,5 +1,5 @@
 -- What a pen has written: the bytes its store holds, how many it can hold, and whether a byte found no room.
-use Rattle.std.specs.Prelude.{ℕ, ◌-◌, Bool, true, false, cond, List, [], ◌∷◌, ◌++◌, length, take, nat_le, nat_lt}
+use Rattle.std.specs.Prelude.{ℕ, ◌+◌, ◌-◌, Bool, true, false, cond, List, [], ◌∷◌, ◌++◌, length, take, nat_le, nat_lt}
 
 pub record PenState : Type 0 where
   pub held : List ℕ
@@ -37,3 +37,11 @@ fits s n = cond s.lost false (nat_le n (s.capacity - length s.held))
 -- the end of a call: kept where n more bytes would fit, else cut back to the first m bytes; nothing counts as lost then
 abbrev pub settled : PenState → ℕ → ℕ → PenState
 settled s m n = cond (fits s n) s (pen (take m s.held) s.capacity false)
+
+-- whether the bytes of a call fit, with n more after them, and nothing was lost before it
+abbrev pub all_fit : PenState → List ℕ → ℕ → Bool
+all_fit s bytes n = cond s.lost false (nat_le (length (s.held ++ bytes) + n) s.capacity)
+
+-- a call: all of its bytes where they fit, else none of them; nothing counts as lost then
+abbrev pub called : PenState → List ℕ → ℕ → PenState
+called s bytes n = pen (cond (all_fit s bytes n) (s.held ++ bytes) s.held) s.capacity false

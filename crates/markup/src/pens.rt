@@ -3,11 +3,11 @@
 //! A call marks where it begins, writes, and settles. Where a byte was lost, or the bytes owed afterwards would not fit,
 //! settling cuts the store back to the mark, so that a call writes all of its bytes or none.
 
-ghost use Rattle.std.specs.Prelude.{◌≡◌, ◌-◌, ◌≤◌, false, [], length};
-ghost use Rattle.markup.specs.Pens.{pen, step, after, fits, settled};
+ghost use Rattle.std.specs.Prelude.{◌≡◌, ℕ, ◌-◌, ◌≤◌, false, List, [], length, is_ok};
+ghost use Rattle.markup.specs.Pens.{pen, step, after, fits, settled, all_fit, called};
 ghost use Rattle.markup.specs.State.{state};
 
-use stores::Store;
+use stores::{Full, Store};
 
 /// A store that is written to, and whether a byte found no room since the last call was settled.
 #[derive(Drop)]
@@ -29,9 +29,8 @@ impl<S: Store> Pen<S> {
     pub fn byte(&mut self, byte: u8)
         ensures { state S.Store self.new ≡ step (state S.Store self.old) byte }
     {
-        match self.store.put(byte) {
-            Ok(()) => {}
-            Err(_) => self.lost = true,
+        if self.store.put(byte).is_err() {
+            self.lost = true;
         }
     }
 
@@ -52,17 +51,29 @@ impl<S: Store> Pen<S> {
     }
 
     /// Ends a call. Where a byte was lost, or `owed` more bytes would not fit, cuts the store back to the first `mark` bytes.
-    pub fn settle(&mut self, mark: usize, owed: usize) -> bool
-        ensures told { result ≡ fits (state S.Store self.old) owed }
+    pub fn settle(&mut self, mark: usize, owed: usize) -> Result<(), Full>
+        ensures told { is_ok result ≡ fits (state S.Store self.old) owed }
         ensures done { mark ≤ length (S.Store.held self.old.store) → state S.Store self.new ≡ settled (state S.Store self.old) mark owed }
+        ensures clean { self.new.lost ≡ false }
     {
         let left = self.store.size() - self.store.count();
         if self.lost || left < owed {
             let _ = self.store.cut(mark);
             self.lost = false;
-            return false;
+            return Err(Full);
         }
-        true
+        Ok(())
+    }
+
+    /// A call: what `writing` writes, where that and the `owed` bytes after it fit, else nothing.
+    pub fn call<W: Writing>(&mut self, writing: &W, owed: usize) -> Result<(), Full>
+        ensures told { is_ok result ≡ all_fit (state S.Store self.old) (W.bytes writing.now) owed }
+        ensures done { state S.Store self.new ≡ called (state S.Store self.old) (W.bytes writing.now) owed }
+        ensures clean { self.new.lost ≡ false }
+    {
+        let mark = self.mark();
+        writing.write(self);
+        self.settle(mark, owed)
     }
 
     /// The store, with what it holds.
@@ -72,4 +83,12 @@ impl<S: Store> Pen<S> {
         let Pen { store, lost: _ } = self;
         store
     }
+}
+
+/// What a call writes.
+pub trait Writing {
+    ghost bytes: { Self → List ℕ };
+
+    fn write<S: Store>(&self, pen: &mut Pen<S>)
+        ensures { state S.Store pen.new ≡ after (state S.Store pen.old) (bytes self.now) };
 }

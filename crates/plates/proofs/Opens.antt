@@ -1,10 +1,9 @@
 -- The outcome of open, from what its parts ensure.
-use Rattle.std.proofs.Common.{◌≡◌, ℕ, ◌+◌, ◌≤◌, Bool, true, false, List, reverse, length, take, Ok, ap, ◌∙◌, arith}
+use Rattle.std.proofs.Common.{◌≡◌, ℕ, ◌+◌, Bool, true, List, ◌++◌, reverse, length, Ok, refl, ap, ◌∙◌, arith}
 use Rattle.stores.specs.declared.Store.{Ghosts}
 use Rattle.markup.specs.declared.pens.Pen.{Pen}
-use Rattle.markup.specs.Pens.{pen, after, fits, settled}
+use Rattle.markup.specs.Pens.{all_fit, called}
 use Rattle.markup.specs.State.{state}
-use Rattle.markup.proofs.Chains.{after_after}
 use Rattle.drawing.specs.declared.options.WriteOptions.{WriteOptions}
 use Rattle.drawing.specs.declared.names.AId.TheVariants.{Id}
 use Rattle.drawing.specs.declared.faults.Fault.TheVariants.{Setting, Moment}
@@ -26,24 +25,9 @@ open_allowed names o name id a b c =
     ∙ ap (λ z. required z Moment (recast outside_nodes (id_in Id id))) b
     ∙ ap (recast outside_nodes) c
 
-pub open_outcome : (b : Bool) {S : Type 0} (store : Ghosts S) (p : Plate S) (o : WriteOptions) (name : Element) (id : List ℕ)
-    (mark size : ℕ) (finished started left : Pen S) →
-    settings_stand o ≡ true → may_open (view store p).names ≡ true → id_in Id id ≡ Ok tt →
-    mark ≡ length (store.held p.pen.store) →
-    state store finished ≡ after (state store p.pen) (finish p.stage) →
-    state store started ≡ after (state store finished) (start_tag o name id) →
-    size ≡ length (end_tags (reverse (take p.depth p.names))) →
-    b ≡ fits (state store started) (2 + size) →
-    (mark ≤ length (store.held started.store) → state store left ≡ settled (state store started) mark (2 + size)) →
-    Outcome b (view store p) (opens o name id) (state store left)
-open_outcome b store p o name id mark size finished started left settings moment named m first second s told done =
-    let before = view store p in
-    let clean : state store p.pen ≡ pen before.held before.capacity false = ap (pen before.held before.capacity) p.clean in
-    outcome b before (opens o name id) (2 + size) mark (state store started) (state store left)
-    (store.within p.pen.store)
-    (open_allowed before.names o name id settings moment named)
-    (omega arith)
-    (second
-    ∙ ap (λ z. after z (start_tag o name id)) (first ∙ ap (λ z. after z (finish p.stage)) clean)
-    ∙ after_after (pen before.held before.capacity false) (finish p.stage) (start_tag o name id))
-    m told done
+pub open_outcome : (b ok : Bool) {S : Type 0} (store : Ghosts S) (p : Plate S) (o : WriteOptions) (name : Element) (id : List ℕ) (size : ℕ) (left : Pen S) →
+    settings_stand o ≡ true → may_open (view store p).names ≡ true → id_in Id id ≡ Ok tt → size ≡ length (end_tags (reverse p.names.items)) →
+    b ≡ ok → ok ≡ all_fit (state store p.pen) (finish p.stage ++ start_tag o name id) (2 + size) →
+    state store left ≡ called (state store p.pen) (finish p.stage ++ start_tag o name id) (2 + size) → Outcome b (view store p) (opens o name id) (state store left)
+open_outcome b ok store p o name id size left settings moment named sized is told done =
+    outcome b ok store p (opens o name id) (2 + size) _ left (open_allowed (view store p).names o name id settings moment named) (omega arith) refl is told done

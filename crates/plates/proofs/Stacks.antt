@@ -1,34 +1,22 @@
 -- The names that are open, outermost first in the plate and innermost first in its state, and their end tags.
-use Rattle.std.proofs.Common.{◌≡◌, ℕ, ◌+◌, ◌-◌, ◌<◌, ◌≤◌, Bool, true, false, not, ◌&&◌, ltb, ◌⊎◌, List, [], ◌∷◌, reverse, length, get_or, take, set, codes, refl, ap, ◌∙◌, inl, inr, arith, ltb-true, le-ltb, lt-ltb}
-use Rattle.std.proofs.lemmas.List.{take_more, take_more_set, reverse-append, length-append, length-reverse, length-take-le}
+use Rattle.std.proofs.Common.{◌≡◌, ℕ, ◌+◌, ◌*◌, ◌≤◌, ◌⊎◌, List, [], ◌∷◌, ◌++◌, reverse, length, codes, refl, ap, ◌∙◌, inl, inr, arith, length-append}
+use Rattle.std.specs.List.{sum_by}
+use Rattle.std.proofs.lemmas.List.{reverse-append}
+use Rattle.std.proofs.lemmas.List.Sums.{sum_by-append}
 use Rattle.plates.specs.declared.elements.Element.{Element}
 use Rattle.plates.specs.declared.elements.Element.TheVariants.{Svg, G, Defs, Mask, Pattern, LinearGradient, RadialGradient}
 use Rattle.plates.specs.declared.elements.Stage.{Stage}
 use Rattle.plates.specs.declared.elements.Stage.TheVariants.{Fresh, Filled, Body}
-use Rattle.plates.specs.Elements.{element_name, is_gradient}
-use Rattle.plates.specs.Steps.{in_gradient, may_open}
+use Rattle.plates.specs.Elements.{element_name}
 use Rattle.plates.specs.Closing.{end_tag, end_tags, closing_marks}
 
--- the innermost
-pub innermost : (names : List Element) (depth : ℕ) (x : Element) → 0 < depth → depth ≤ length names →
-    reverse (take depth names) ≡ get_or names (depth - 1) x ∷ reverse (take (depth - 1) names)
-innermost names depth x h l =
-    let e : depth ≡ depth - 1 + 1 = omega arith in
-    ap (λ n. reverse (take n names)) e
-    ∙ ap reverse (take_more names (depth - 1) x (omega arith))
-    ∙ reverse-append (take (depth - 1) names) (get_or names (depth - 1) x ∷ [])
-
--- one more
-pub one_more : (names : List Element) (depth : ℕ) (name : Element) → depth < length names →
-    reverse (take (depth + 1) (set names depth name)) ≡ name ∷ reverse (take depth names)
-one_more names depth name h = ap reverse (take_more_set names depth name h) ∙ reverse-append (take depth names) (name ∷ [])
-
-pub depth_of : (names : List Element) (depth : ℕ) → depth ≤ length names → length (reverse (take depth names)) ≡ depth
-depth_of names depth h = length-reverse (take depth names) ∙ length-take-le depth names h
+-- the last of the plate's names is the first of its state's
+pub innermost : (names others : List Element) (x : Element) → names ≡ others ++ x ∷ [] → reverse names ≡ x ∷ reverse others
+innermost names others x e = ap reverse e ∙ reverse-append others (x ∷ [])
 
 -- The sizes of end tags.
 
-pub name_short : (name : Element) → length (element_name name) ≤ 14
+name_short : (name : Element) → length (element_name name) ≤ 14
 name_short Svg = omega arith
 name_short G = omega arith
 name_short Defs = omega arith
@@ -37,17 +25,33 @@ name_short Pattern = omega arith
 name_short LinearGradient = omega arith
 name_short RadialGradient = omega arith
 
-pub end_tag_size : (name : Element) → length (end_tag name) ≡ length (element_name name) + 3
+end_tag_size : (name : Element) → length (end_tag name) ≡ length (element_name name) + 3
 end_tag_size name = let e = length-append (element_name name) (codes ">") in omega arith
 
-pub end_tags_more : (names : List Element) (i : ℕ) (x : Element) → i < length names →
-    length (end_tags (reverse (take (i + 1) names))) ≡ length (element_name (get_or names i x)) + 3 + length (end_tags (reverse (take i names)))
-end_tags_more names i x h =
-    let name = get_or names i x in
-    ap (λ z. length (end_tags (reverse z))) (take_more names i x h)
-    ∙ ap (λ z. length (end_tags z)) (reverse-append (take i names) (name ∷ []))
-    ∙ length-append (end_tag name) (end_tags (reverse (take i names)))
-    ∙ ap (λ z. z + length (end_tags (reverse (take i names)))) (end_tag_size name)
+-- of several, in either order
+abbrev pub tag_size : Element → ℕ
+tag_size name = length (element_name name) + 3
+
+tags_push : (names : List Element) (x : Element) → length (end_tags (names ++ x ∷ [])) ≡ length (end_tags names) + tag_size x
+tags_push [] x = let e = end_tag_size x in let a = length-append (end_tag x) [] in omega arith
+tags_push (name ∷ names) x =
+    let e = tags_push names x in
+    let a = length-append (end_tag name) (end_tags (names ++ x ∷ [])) in
+    let b = length-append (end_tag name) (end_tags names) in
+    omega arith
+
+pub tags_size : (names : List Element) → sum_by tag_size names ≡ length (end_tags (reverse names))
+tags_size [] = refl
+tags_size (x ∷ names) =
+    let e = ap (λ z. length (end_tags z)) (reverse-append (x ∷ []) names) in
+    let r = tags_size names in
+    let a = sum_by-append tag_size (x ∷ []) names in
+    let p = tags_push (reverse names) x in
+    omega arith
+
+pub tags_small : (names : List Element) → sum_by tag_size names ≤ 17 * length names
+tags_small [] = omega arith
+tags_small (x ∷ names) = let r = tags_small names in let s = name_short x in let a = sum_by-append tag_size (x ∷ []) names in omega arith
 
 -- where the innermost has content, and where its start tag is unfinished
 pub marks_body : (names : List Element) → closing_marks Body names ≡ end_tags names
@@ -58,29 +62,3 @@ pub marks_tag : (stage : Stage) (names rest : List Element) (name : Element) →
     length (closing_marks stage names) ≡ 2 + length (end_tags rest)
 marks_tag stage names rest name (inl e) f = rw (e, f) (omega arith)
 marks_tag stage names rest name (inr e) f = rw (e, f) (omega arith)
-
--- Whether an element may be opened, by the plate's own depth.
-
-pub may_open_deep : (names : List Element) (depth : ℕ) → 32 ≤ depth → depth ≤ length names → may_open (reverse (take depth names)) ≡ false
-may_open_deep names depth h l =
-    let d = depth_of names depth l in
-    let e : ltb (length (reverse (take depth names))) 32 ≡ false = le-ltb _ _ (omega arith) in
-    ap (λ z. z && not (in_gradient (reverse (take depth names)))) e
-
-pub may_open_here : (names : List Element) (depth : ℕ) (x : Element) → 0 < depth → depth < 32 → depth ≤ length names →
-    may_open (reverse (take depth names)) ≡ not (is_gradient (get_or names (depth - 1) x))
-may_open_here names depth x h k l =
-    let d = depth_of names depth l in
-    let e : ltb (length (reverse (take depth names))) 32 ≡ true = lt-ltb _ _ (omega arith) in
-    ap (λ z. z && not (in_gradient (reverse (take depth names)))) e ∙ ap (λ z. not (in_gradient z)) (innermost names depth x h l)
-
--- where one may be opened, fewer than 32 are open
-pub room_for_one : (names : List Element) (depth : ℕ) → depth ≤ length names → may_open (reverse (take depth names)) ≡ true → depth < 32
-room_for_one names depth l e =
-    let d = depth_of names depth l in
-    let t : ltb (length (reverse (take depth names))) 32 ≡ true = left _ _ e in
-    omega (arith, ltb-true _ _ t)
-  where
-    left : (a b : Bool) → (a && b) ≡ true → a ≡ true
-    left true b e = refl
-    left false b e = e

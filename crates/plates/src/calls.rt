@@ -3,15 +3,15 @@
 //! A call first tests its rules in their order, then writes, and in the end settles: where its bytes and the closing marks
 //! owed afterwards do not fit, the store is cut back to where it was.
 
-ghost use Rattle.std.specs.Prelude.{◌≡◌, ℕ, ◌*◌, ◌≤◌, reverse, length, take};
+ghost use Rattle.std.specs.Prelude.{◌≡◌, ℕ, ◌*◌, ◌≤◌, reverse, length};
 ghost use Rattle.plates.specs.Closing.{end_tags, closing_marks};
-ghost use Rattle.plates.specs.Elements.{is_gradient};
 ghost use Rattle.plates.specs.Steps.{blank, answer, next, opens, closes, may_open};
 ghost use Rattle.plates.specs.View.{view, Unaltered};
 
 use crate::elements::{Element, Stage};
-use crate::marks::{write_end, write_finish, write_start};
+use crate::marks::{Ending, Opening};
 use crate::plates::Plate;
+use arrayvec::ArrayVec;
 use checks::ids::id_at;
 use checks::settings::are_settings;
 use drawing::faults::Fault;
@@ -20,23 +20,16 @@ use drawing::options::WriteOptions;
 use markup::pens::Pen;
 use stores::Store;
 
-/// How many elements may be open.
-const DEEPEST: usize = 32;
-
 /// The bytes of `/>`.
 const SLASH: usize = 2;
 
-/// How many bytes the end tags of the first `depth` elements have.
-fn end_tags_size(names: &[Element], depth: usize) -> usize
-    requires { (depth ≤ length names.now) × (depth ≤ 32) }
-    ensures size { result ≡ length (end_tags (reverse (take depth names.now))) }
-    ensures bound { result ≤ 17 * depth }
+/// How many bytes the end tags of these elements have.
+fn end_tags_size(names: &[Element]) -> usize
+    requires { length names.now ≤ 32 }
+    ensures size { result ≡ length (end_tags (reverse names.now)) }
+    ensures bound { result ≤ 17 * length names.now }
 {
-    let mut size = 0;
-    for i in 0..depth {
-        size += names[i].name().len() + 3;
-    }
-    size
+    names.iter().map(|name| name.name().len() + 3).sum()
 }
 
 impl<S: Store> Plate<S> {
@@ -46,8 +39,7 @@ impl<S: Store> Plate<S> {
     {
         Plate {
             pen: Pen::new(store),
-            names: [Element::G; DEEPEST],
-            depth: 0,
+            names: ArrayVec::new(),
             stage: Stage::Body,
         }
     }
@@ -56,22 +48,19 @@ impl<S: Store> Plate<S> {
     fn may_open(&self) -> bool
         ensures { result ≡ may_open (view S.Store self.now).names }
     {
-        if self.depth == 0 {
-            return true;
-        }
-        self.depth < DEEPEST && !self.names[self.depth - 1].is_gradient()
+        !self.names.is_full() && !self.names.last().is_some_and(|name| name.is_gradient())
     }
 
     /// How many bytes would close everything open.
     pub fn closing_marks(&self) -> usize
         ensures { result ≡ length (closing_marks (view S.Store self.now).stage (view S.Store self.now).names) }
     {
-        if self.depth == 0 {
+        let Some((_, others)) = self.names.split_last() else {
             return 0;
-        }
+        };
         match self.stage {
-            Stage::Fresh | Stage::Filled => SLASH + end_tags_size(&self.names, self.depth - 1),
-            Stage::Body => end_tags_size(&self.names, self.depth),
+            Stage::Fresh | Stage::Filled => SLASH + end_tags_size(others),
+            Stage::Body => end_tags_size(&self.names),
         }
     }
 
@@ -86,7 +75,7 @@ impl<S: Store> Plate<S> {
     pub fn depth(&self) -> usize
         ensures { result ≡ length (view S.Store self.now).names }
     {
-        self.depth
+        self.names.len()
     }
 
     /// Opens an element: a start tag with its prefixed id, if any, and for `svg` its namespaces.
@@ -102,15 +91,15 @@ impl<S: Store> Plate<S> {
             return Err(Fault::Moment);
         }
         id_at(AId::Id, id)?;
-        let mark = self.pen.mark();
-        write_finish(&mut self.pen, self.stage);
-        write_start(&mut self.pen, options, element, id);
-        let owed = SLASH + end_tags_size(&self.names, self.depth);
-        if !self.pen.settle(mark, owed) {
-            return Err(Fault::Full);
-        }
-        self.names[self.depth] = element;
-        self.depth += 1;
+        let opening = Opening {
+            around: self.stage,
+            options,
+            element,
+            id,
+        };
+        let owed = SLASH + end_tags_size(&self.names);
+        self.pen.call(&opening, owed).map_err(|_| Fault::Full)?;
+        self.names.push(element);
         self.stage = Stage::Fresh;
         Ok(())
     }
@@ -121,17 +110,16 @@ impl<S: Store> Plate<S> {
         ensures done { view S.Store self.new ≡ next (view S.Store self.old) closes }
         ensures kept { Unaltered self.old self.new result }
     {
-        if self.depth == 0 {
+        let Some((innermost, others)) = self.names.split_last() else {
             return Err(Fault::Moment);
-        }
-        let last = self.depth - 1;
-        let mark = self.pen.mark();
-        write_end(&mut self.pen, self.stage, self.names[last]);
-        let owed = end_tags_size(&self.names, last);
-        if !self.pen.settle(mark, owed) {
-            return Err(Fault::Full);
-        }
-        self.depth = last;
+        };
+        let ending = Ending {
+            stage: self.stage,
+            element: *innermost,
+        };
+        let owed = end_tags_size(others);
+        self.pen.call(&ending, owed).map_err(|_| Fault::Full)?;
+        self.names.pop();
         self.stage = Stage::Body;
         Ok(())
     }
@@ -143,7 +131,6 @@ impl<S: Store> Plate<S> {
         let Plate {
             pen,
             names: _,
-            depth: _,
             stage: _,
         } = self;
         pen.into_store()

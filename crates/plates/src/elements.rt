@@ -3,9 +3,10 @@
 ghost use Rattle.std.specs.Prelude.{◌≡◌, Bool, true, false};
 ghost use Rattle.plates.specs.Elements.{element_name, is_gradient};
 
-#[derive(Clone, Copy)]
+#[derive(Clone, Copy, PartialEq, Eq, Debug, Default)]
 pub enum Element {
     Svg,
+    #[default]
     G,
     Defs,
     Mask,
@@ -15,7 +16,7 @@ pub enum Element {
 }
 
 /// How far the innermost open element has come.
-#[derive(Clone, Copy)]
+#[derive(Clone, Copy, PartialEq, Eq, Debug)]
 pub enum Stage {
     /// Its start tag is unfinished, and no gradient went into it.
     Fresh,
@@ -44,9 +45,6 @@ impl Element {
     pub fn is_gradient(self) -> bool
         ensures { result ≡ is_gradient self }
     {
-        match self {
-            Element::LinearGradient | Element::RadialGradient => true,
-            _ => false,
-        }
+        matches!(self, Element::LinearGradient | Element::RadialGradient)
     }
 }

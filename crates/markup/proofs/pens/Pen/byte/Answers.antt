@@ -1,22 +1,22 @@
-use Rattle.markup.specs.Pens.{pen}
-use Rattle.markup.proofs.Chains.{step_fits, step_full}
-use Rattle.std.proofs.Common.{arith}
+use Rattle.std.proofs.Common.{◌≡◌, ℕ, Bool, true, false, cond, List, Result, Ok, Err, sym, ◌∙◌, arith}
+use Rattle.std.specs.Result.{is_err}
+use Rattle.std.proofs.lemmas.Bool.Decides.{nat_tests}
+use Rattle.stores.specs.Meaning.{Put}
+use Rattle.markup.specs.Pens.{PenState, pen, step}
+use Rattle.markup.specs.State.{state}
 use Rattle.markup.proofs.pens.Pen.byte.Goals as goal
 
-pub returns-in-Ok : goal.returns-in-Ok
-returns-in-Ok g c =
-    let s = c.args.self.now.store in
-    let w = c.in-Ok.ensures in
-    let r = w.sized in
-    let h = w.cases.1 in
-    let e = step_fits (pen (g.S.Store.held s) (g.S.Store.capacity s) c.args.self.now.lost) c.args.byte w.cases.0 in
-    cc
+-- one byte, by what the store answered
+put_step : {Refusal : Type 0} (s : PenState) (held : List ℕ) (capacity b : ℕ) (answer : Result (Unit {0}) Refusal) (refused : Bool) →
+    capacity ≡ s.capacity → refused ≡ is_err answer → Put s.held s.capacity b held answer → pen held capacity (cond refused true s.lost) ≡ step s b
+unfolding step
+put_step s held capacity b (Ok x) refused c e p = grind (arith, nat_tests)
+put_step s held capacity b (Err x) refused c e p = grind (arith, nat_tests)
 
-pub returns-in-Err : goal.returns-in-Err
-returns-in-Err g c =
-    let s = c.args.self.now.store in
-    let w = c.in-Err.ensures in
-    let r = w.sized in
-    let h = w.cases.1 in
-    let e = step_full (pen (g.S.Store.held s) (g.S.Store.capacity s) c.args.self.now.lost) c.args.byte (omega (arith, w.cases.0)) in
-    cc
+pub returns-then-is_err : goal.returns-then-is_err
+returns-then-is_err g c =
+    put_step (state g.S.Store c.args.self.now) _ _ c.args.byte c.put.result true c.put.ensures.sized (sym c.if-is_err.true ∙ c.is_err.ensures.value) c.put.ensures.cases
+
+pub returns-else-is_err : goal.returns-else-is_err
+returns-else-is_err g c =
+    put_step (state g.S.Store c.args.self.now) _ _ c.args.byte c.put.result false c.put.ensures.sized (sym c.if-is_err.false ∙ c.is_err.ensures.value) c.put.ensures.cases
