@@ -1,5 +1,5 @@
 -- Rules by their numbers, and a walk over the entries of a list.
-use Rattle.std.proofs.Common.{◌≡◌, ℕ, Bool, ◌==◌, refl}
+use Rattle.std.proofs.Common.{◌≡◌, ◌==◌, refl}
 use denote.Enum.Bare.{sameb}
 use Rattle.checks.specs.declared.entries.Rule.{Rule}
 use Rattle.checks.specs.declared.entries.Rule.TheVariants.{Place, Id, Empty, Number, Text, Family}

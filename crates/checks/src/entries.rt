@@ -3,7 +3,7 @@
 //! A row is walked once for each rule. The walk lets pass what another rule looks at; so a row's entries stand in one
 //! place, in their order.
 
-ghost use Rattle.std.specs.Prelude.{◌≡◌, Bool, true, false, Some, None, length};
+ghost use Rattle.std.specs.Prelude.{◌≡◌, None, length};
 ghost use Rattle.std.specs.Fn.{FnReturnsAt};
 ghost use Rattle.checks.specs.Verdicts.{verdict_of};
 ghost use Rattle.checks.specs.Entries.{judged, rule_of, entry_verdict, lies, moves_first, row_in, place_in, at_most, first_at, each, Fields};
@@ -137,6 +137,7 @@ pub struct Checker<'d> {
 
 impl Checker<'_> {
     /// An entry that stands in an attribute, or in none.
+    #[tactic(auto, using(crate::proofs::Rules::same_rule), unfolding(crate::specs::Entries::judged))]
     pub fn check_entry(&self, attribute: Option<AId>, value: Entry) -> Result<(), AttributeFault>
         ensures { result ≡ judged self.now.rule attribute (meant value.entry) }
     {

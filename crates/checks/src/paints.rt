@@ -4,7 +4,7 @@
 
 ghost use Rattle.std.specs.Prelude.{◌≡◌};
 ghost use Rattle.checks.specs.Entries.{first_at};
-ghost use Rattle.checks.specs.Rows.{number_if_any, pool_fields, id_fields, reference_fields, reference_if_any, text_fields, number_list, transform_fields, paint_fields, fill_fields, dash_fields, stroke_fields};
+ghost use Rattle.checks.specs.Rows.{number_if_any, id_fields, reference_fields, reference_if_any, text_fields, number_list, transform_fields, paint_fields, fill_fields, dash_fields, stroke_fields};
 
 use crate::entries::{Checker, Entry};
 use crate::numbers::Domain;

@@ -1,41 +1,32 @@
 -- The theorem on `bare`: its text is the shortest, nearest, larger one, reads back, and no other text does all that.
-use Rattle.std.proofs.Common.{◌≡◌, ℕ, zero, suc, ◌+◌, ◌-◌, ◌*◌, ◌/◌, ◌%◌, ◌^◌, ◌<◌, Bool, true, false, cond, ◌||◌, T, eqb, leb, ◌⊎◌, List, sym, refl, ap, ◌∙◌, subst, inl, inr, le_trans, le_of_eq, le_antisymm, mul-pos, zero-mul, mul-one, arith, lit<}
+use Rattle.std.proofs.Common.{◌≡◌, ℕ, ◌+◌, ◌-◌, ◌*◌, ◌/◌, ◌%◌, ◌^◌, ◌<◌, Bool, true, false, T, leb, ◌⊎◌, List, sym, refl, ap, ◌∙◌, subst, inl, inr, le_antisymm, mul-pos, zero-mul, arith, lit<}
 use mathlib.Core.Bool.{false≢true}
-use native.Mathlib.Nat.{zero-div}
-use lib.Ieee.{Float, nan, inf, fin, binary32, up, down, size, round, units, odd, fits, to_bits, of_bits, eq, le}
+use lib.Ieee.{Float, nan, inf, fin, binary32, size, round, units, fits, to_bits, of_bits, eq, le}
 use lib.Ieee.Fits.{round_is}
 use lib.Ieee.Exact.{HasValue}
-use lib.Ieee.Order.{drop, kept}
-use Rattle.std.proofs.lemmas.Bool.{cond-true, cond-false, eq-eqb, ne_eqb, and_parts, or_cases, eqb-true}
+use Rattle.std.proofs.lemmas.Bool.{cond-false, ne_eqb, and_parts, or_cases}
 use Rattle.std.specs.Float.{is_sign_negative, float_with_sign}
 use Rattle.digits.specs.Decimals as text
 use Rattle.digits.specs.Decimals.{minus, places, spelling}
-use Rattle.digits.specs.Magnitudes.{grains, apart, nought, least, most, bare_domain}
+use Rattle.digits.specs.Magnitudes.{grains, nought, least, most, bare_domain}
 use Rattle.digits.specs.Bare.{Significant, away, Shortest, Shows, bare, shortest_text, best_at, coarsest, tens_above}
 use Rattle.digits.specs.Scaled.{Parts}
 use Rattle.digits.specs.Theorems.{BareStands}
 use Rattle.digits.proofs.ReadsBack.{reads_of_grains, rounded_grains}
 use Rattle.digits.proofs.Searched.{Found, definition_found, same_units, same_place}
 use Rattle.digits.proofs.Shortness.{found_shortest, found_bound, found_lowest}
-use Rattle.digits.proofs.Texts.{Lowest, spelling_plain, spelling_says, spelling_reads, plain_spelling, plain_lowest, lowest_places, lowest_units, ten_pos}
+use Rattle.digits.proofs.Texts.{Lowest, spelling_plain, spelling_says, spelling_reads, plain_spelling, plain_lowest, lowest_places, lowest_units, ten_pos, whole_lowest}
 use Rattle.digits.proofs.Values.{grains_of, sign_of, valued, finite_in, parts_of}
+use Rattle.std.proofs.lemmas.Float.{T_from_true}
 
 -- ---- the sign is that of the text
-odd_negative : (d : ℕ) (s : Bool) (q k l : ℕ) → is_sign_negative (odd d s q k l) ≡ s
-unfolding is_sign_negative odd
-odd_negative d s zero k l = refl
-odd_negative d s (suc q) k l = refl
 
 units_negative : (s : Bool) (q k : ℕ) → is_sign_negative (units binary32 s q k) ≡ s
 unfolding units is_sign_negative
-units_negative s q k = go (lib.Dec.ltb (q * 2 ^ k) (2 ^ 277))
-  where
-    go : (b : Bool) → is_sign_negative (cond b (odd 25 s q k 149) (inf s)) ≡ s
-    go true = odd_negative 25 s q k 149
-    go false = refl
+units_negative s q k = grind arith
 
 pub round_negative : (s : Bool) (n d : ℕ) → is_sign_negative (round binary32 s n d) ≡ s
-round_negative s n d = ap is_sign_negative (round_is binary32 s n d) ∙ units_negative s (kept 24 (n * 2 ^ 149) d) (drop 24 (n * 2 ^ 149) d)
+round_negative s n d = grind (arith, is_sign_negative, round_is, units_negative)
 
 -- ---- one decimal is the shortest, nearest, larger one
 shortest_once : (x : Float) (n k n' k' : ℕ) → Shortest x n k → Shortest x n' k' → n * 10 ^ k' ≡ n' * 10 ^ k
@@ -75,48 +66,32 @@ unfolding size
 zero_stays = refl
 
 away_zero : (x : Float) (n k : ℕ) → grains x ≡ 0 → n ≡ 0 → away x n k ≡ 0
-away_zero x n k g z = ap (λ (t : ℕ). apart (t * 2 ^ 149) (grains x * 10 ^ k)) z ∙ ap (λ (t : ℕ). apart 0 (t * 10 ^ k)) g ∙ ap (λ (t : ℕ). apart 0 t) (zero-mul (10 ^ k))
+away_zero x n k g z = grind arith
 
 no_digits : (n : ℕ) → Significant 0 n → n ≡ 0
-no_digits n g = let m : g.0 ≡ 0 = (let h = g.2 in omega arith) in g.3 ∙ ap (λ (z : ℕ). z * 10 ^ g.1) m ∙ zero-mul (10 ^ g.1)
+no_digits n g = grind arith
 
 pub zero_shortest : (x : Float) → T (fits binary32 x) → HasValue x (is_sign_negative x) 0 (2 ^ 149) → Shortest x 0 0
-zero_shortest x p v =
-    let g : grains x ≡ 0 = grains_of x (is_sign_negative x) 0 v in
-    let none : (n' : ℕ) → ((t : ℕ) → Significant t 0 → Significant t n') → n' ≡ 0 = λ n' few. no_digits n' (few 0 (0, 0, lit< tt, refl)) in
-    record {
-      back = reads_of_grains (is_sign_negative x) 0 1 x 0 p v (lit< tt) zero_stays;
-      fewest = λ n' k' t r h. (0, 0, ten_pos t, refl);
-      nearest = λ n' k' r few. le_trans (le_of_eq (ap (λ (z : ℕ). z * 10 ^ k') (away_zero x 0 0 g refl) ∙ zero-mul (10 ^ k'))) (omega arith);
-      larger = λ n' k' r few e. le_trans (le_of_eq (ap (λ (z : ℕ). z * 1) (none n' few))) (omega arith);
-    }
+zero_shortest x p v = grind (arith, grains_of, is_sign_negative, no_digits, reads_of_grains, zero_stays, ten_pos, away_zero, zero-mul)
 
 -- ---- the domain
 pub zero_grains : (x : Float) → eq x nought ≡ true → grains x ≡ 0
 unfolding eq of_bits grains
 zero_grains nan h = absurd (false≢true h)
 zero_grains (inf s) h = absurd (false≢true h)
-zero_grains (fin s m e) h =
-    let a : m * up e * 1 ≡ 0 * 1 * down e = eqb-true (m * up e * 1) (0 * 1 * down e) (and_parts (eqb (m * up e * 1) (0 * 1 * down e)) _ h).0 in
-    let b : m * up e ≡ 0 = sym (mul-one (m * up e)) ∙ a ∙ zero-mul (down e) in
-    ap (λ (z : ℕ). z * 2 ^ 149 / down e) b ∙ zero-div (down e)
-
-zero_lowest : Lowest 0 0
-zero_lowest h z = omega arith
+zero_grains (fin s m e) h = grind arith
 
 -- a float of the domain is zero, or has the parts that the search goes by
 pub in_domain : (x : Float) → bare_domain x ≡ true → (le (float_with_sign false x) most ≡ true) × ((grains x ≡ 0) ⊎ (le least (float_with_sign false x) ≡ true))
-in_domain x h =
-    let a = and_parts (le (float_with_sign false x) most) (eq x nought || le least (float_with_sign false x)) h in
-    (a.0, elim (or_cases (eq x nought) (le least (float_with_sign false x)) a.1) [ inl e ↦ inl (zero_grains x e) | inr e ↦ inr e ])
+in_domain x h = grind (arith, and_parts, float_with_sign, or_cases, zero_grains)
 
-bare_zero : (x : Float) → grains x ≡ 0 → bare x ≡ spelling (is_sign_negative x) 0 0
+pub bare_nought : (x : Float) → grains x ≡ 0 → bare x ≡ spelling (is_sign_negative x) 0 0
 unfolding bare
-bare_zero x e = cond-true (eqb (grains x) 0) (spelling (is_sign_negative x) 0 0) (shortest_text x) (eq-eqb (grains x) 0 e)
+bare_nought x e = grind arith
 
 bare_some : (x : Float) → (grains x ≡ 0 → ⊥) → bare x ≡ spelling (is_sign_negative x) (best_at x (coarsest x) * tens_above (coarsest x)) (coarsest x - 12)
 unfolding bare
-bare_some x e = cond-false (eqb (grains x) 0) (spelling (is_sign_negative x) 0 0) (shortest_text x) (ne_eqb (grains x) 0 e)
+bare_some x e = grind (arith, cond-false, is_sign_negative, shortest_text, ne_eqb)
 
 pub parts_some : {x : Float} {s : Bool} {M j : ℕ} → Parts x s M j → grains x ≡ 0 → ⊥
 parts_some {x} {s} {M} {j} p z =
@@ -137,16 +112,13 @@ bare_found {x} {s} {M} {j} {n} {i} f =
     ∙ ap (λ (z : ℕ). spelling s (z * tens_above (coarsest x)) (coarsest x - 12)) nn
     ∙ ap (λ (z : ℕ). spelling s (n * tens_above z) (z - 12)) ii
 
-pub bare_nought : (x : Float) → grains x ≡ 0 → bare x ≡ spelling (is_sign_negative x) 0 0
-bare_nought = bare_zero
-
 -- ---- the theorem
 zero_stands : (x : Float) → T (fits binary32 x) → le (float_with_sign false x) most ≡ true → grains x ≡ 0 → Shows x (bare x) × ((bs : List ℕ) → Shows x bs → bs ≡ bare x)
 zero_stands x p h z =
     let v : HasValue x (is_sign_negative x) 0 (2 ^ 149) = subst (λ (t : ℕ). HasValue x (is_sign_negative x) t (2 ^ 149)) z (valued x p (finite_in x h)) in
-    let e = bare_zero x z in
+    let e = bare_nought x z in
     let q = zero_shortest x p v in
-    (subst (λ (t : List ℕ). Shows x t) (sym e) (shows_spelling x 0 0 (lit< tt) zero_lowest q), λ bs g. shows_once x 0 0 (lit< tt) zero_lowest q bs g ∙ sym e)
+    (subst (λ (t : List ℕ). Shows x t) (sym e) (shows_spelling x 0 0 (lit< tt) (whole_lowest 0) q), λ bs g. shows_once x 0 0 (lit< tt) (whole_lowest 0) q bs g ∙ sym e)
 
 some_stands : (x : Float) (s : Bool) (M j : ℕ) → Parts x s M j → Shows x (bare x) × ((bs : List ℕ) → Shows x bs → bs ≡ bare x)
 some_stands x s M j p =
@@ -161,7 +133,7 @@ some_stands x s M j p =
 
 pub bare_stands : BareStands
 bare_stands x p h =
-    let f : T (fits binary32 x) = subst T (sym p) tt in
+    let f : T (fits binary32 x) = T_from_true _ p in
     let d = in_domain x h in
     elim d.1 [
       | inl z ↦ zero_stands x f d.0 z

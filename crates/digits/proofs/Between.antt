@@ -59,27 +59,27 @@ pub record Inside (M n U X : ℕ) : Type 0 where
 
 -- ---- from the rounding to the bounds
 same_case : (M n U X : ℕ) → Near n U M X → (M ≡ 2 ^ 23 → X ≤ n) → Inside M n U X
-same_case M n U X x g = record { high = x.high; low = x.low; low_two = λ e. (let l = g e in omega arith); tie_high = x.tie_high; tie_low = x.tie_low }
+same_case M n U X x g = grind arith
 
 half_case : (n V Y : ℕ) → 0 < V → Near n V (2 ^ 24) Y → Inside (2 ^ 23) n (2 * V) Y
-half_case n V Y P x = record { high = omega arith; low = omega arith; low_two = λ e. omega arith; tie_high = λ e. refl; tie_low = λ e. refl }
+half_case n V Y P x = grind arith
 
 -- K * 2 ^ k ≡ M * 2 ^ j with k = j + d
 cancel : (K M j d : ℕ) → K * 2 ^ (j + d) ≡ M * 2 ^ j → K * 2 ^ d ≡ M
-cancel K M j d e = eq_of_mul-eq-mul_right (2 ^ j) (pow_pos j) (K * 2 ^ d) M (mul_assoc K (2 ^ d) (2 ^ j) ∙ ap (λ (x : ℕ). K * x) (mul_comm (2 ^ d) (2 ^ j) ∙ sym (pow-add 2 j d)) ∙ e)
+cancel K M j d e = grind (arith, eq_of_mul-eq-mul_right, pow_pos, mul_assoc, mul_comm, pow-add)
 
 split : (j k : ℕ) → j < k → (d : ℕ) × (k ≡ j + suc d)
 split j k h = (k - suc j, omega arith)
 
 twice_pow : (K d : ℕ) → K * 2 ^ suc d ≡ 2 * (K * 2 ^ d)
-twice_pow K d = ap (λ (x : ℕ). K * x) (pow-suc 2 d) ∙ sym (mul_assoc K (2 ^ d) 2) ∙ mul_comm (K * 2 ^ d) 2
+twice_pow K d = grind arith
 
 grows : (K d : ℕ) → K ≤ K * 2 ^ d
-grows K d = le_trans (le_of_eq (sym (mul-one K))) (mul-le-mul_left K (pow_pos d))
+grows K d = grind (arith, mul-one, mul-le-mul_left, pow_pos)
 
 one_more : (M d : ℕ) → 2 ^ 23 ≤ M → M * 2 ^ suc d ≤ 2 ^ 24 → (M ≡ 2 ^ 23) × (d ≡ 0)
-one_more M zero a b = let e = twice_pow M 0 in let f = mul-one M in (omega arith, refl)
-one_more M (suc d) a b = let e = twice_pow M (suc d) in let f = twice_pow M d in let g = grows M d in absurd (omega arith)
+one_more M zero a b = grind (arith, twice_pow, mul-one)
+one_more M (suc d) a b = grind (arith, twice_pow, grows)
 
 pub bounds_of : (M j n c : ℕ) → 0 < c → 0 < j → 2 ^ 23 ≤ M → M < 2 ^ 24 → kept 24 n c * 2 ^ drop 24 n c ≡ M * 2 ^ j → Inside M n (c * 2 ^ j) (M * (c * 2 ^ j))
 bounds_of M j n c C J lo hi e =
@@ -121,10 +121,10 @@ bounds_of M j n c C J lo hi e =
 
 -- ---- from the bounds to the rounding
 to_near : (M n U X : ℕ) → Inside M n U X → Near n U M X
-to_near M n U X x = record { low = x.low; high = x.high; tie_low = x.tie_low; tie_high = x.tie_high }
+to_near M n U X x = grind arith
 
 half_near : (n V Y : ℕ) → Inside (2 ^ 23) n (2 * V) Y → n < Y → Near n V (2 ^ 24) Y
-half_near n V Y x h = let l = x.low_two refl in record { low = omega arith; high = omega arith; tie_low = λ e. refl; tie_high = λ e. refl }
+half_near n V Y x h = grind arith
 
 pub rounds_to : (M j n c : ℕ) → 0 < c → 0 < j → 2 ^ 23 ≤ M → M < 2 ^ 24 → Inside M n (c * 2 ^ j) (M * (c * 2 ^ j)) → kept 24 n c * 2 ^ drop 24 n c ≡ M * 2 ^ j
 rounds_to M zero n c C J lo hi x = absurd (omega arith)

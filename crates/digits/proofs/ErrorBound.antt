@@ -11,10 +11,10 @@ pub record Off (n c G : ℕ) : Type 0 where
 
 -- u is the gap
 off_big : (n c u Q q : ℕ) → Near n u q Q → 2 ^ 23 * u ≤ n → Off n c Q
-off_big n c u Q q x h = let a = x.low in let b = x.high in record { high = omega arith; low = omega arith }
+off_big n c u Q q x h = grind arith
 
 off_small : (n c Q q : ℕ) → Near n c q Q → Off n c Q
-off_small n c Q q x = let a = x.low in let b = x.high in record { high = omega arith; low = omega arith }
+off_small n c Q q x = grind arith
 
 pub off : (n c : ℕ) → 0 < c → Off n c (kept 24 n c * 2 ^ drop 24 n c * c)
 off n c C =
@@ -33,11 +33,9 @@ off n c C =
 pub near_enough_high : (b g r s Q T : ℕ) → T ≤ 10 ^ 8 → 2 ^ 149 ≤ r
     → Off b 1 g → 2 * r ≤ 2 * g + 2 ^ 149 → 2 * g ≤ 2 * r + 2 ^ 149 → Off r 1 s → Off s T Q
     → 2 ^ 21 * Q ≤ 2 ^ 21 * b + 2 ^ 20 * 2 ^ 149 + b
-near_enough_high b g r s Q T t one x h l y z =
-    let x0 = x.high in let x1 = x.low in let y0 = y.high in let y1 = y.low in let z0 = z.high in omega arith
+near_enough_high b g r s Q T t one x h l y z = grind arith
 
 pub near_enough_low : (b g r s Q T : ℕ) → T ≤ 10 ^ 8 → 2 ^ 149 ≤ r
     → Off b 1 g → 2 * r ≤ 2 * g + 2 ^ 149 → 2 * g ≤ 2 * r + 2 ^ 149 → Off r 1 s → Off s T Q
     → 2 ^ 21 * b ≤ 2 ^ 21 * Q + 2 ^ 20 * 2 ^ 149 + b
-near_enough_low b g r s Q T t one x h l y z =
-    let x0 = x.high in let x1 = x.low in let y0 = y.high in let y1 = y.low in let z0 = z.low in omega arith
+near_enough_low b g r s Q T t one x h l y z = grind arith

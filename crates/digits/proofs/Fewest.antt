@@ -6,7 +6,8 @@ use Rattle.std.proofs.lemmas.Bool.{cases_lt}
 use Rattle.digits.specs.Bare.{tens_above, tens_below}
 use Rattle.digits.specs.Scaled.{Parts, within, gap, step, units_at}
 use Rattle.digits.proofs.Between.{Inside}
-use Rattle.digits.proofs.PlaceUnits.{tests_inside, inside_tests, ten_pos, significand_some, chosen_one, gap_pos, step_pos, within_reads, reads_within, none_before, result_reads, result_some}
+use Rattle.digits.proofs.PlaceUnits.{tests_inside, inside_tests, significand_some, chosen_one, gap_pos, step_pos, within_reads, reads_within, none_before, result_reads, result_some}
+use Rattle.digits.proofs.Texts.{ten_pos}
 
 -- the same decimal at a finer place
 powers : (i k : ℕ) → i ≤ k → 10 ^ (k - i) * 10 ^ (12 - k) * 10 ^ (i - 12) ≡ 10 ^ (12 - i) * 10 ^ (k - 12)
@@ -15,21 +16,11 @@ powers i k h =
     ap (λ (z : ℕ). z * 10 ^ (i - 12)) (sym (pow-add 10 (k - i) (12 - k))) ∙ sym (pow-add 10 (k - i + (12 - k)) (i - 12)) ∙ ap (λ (z : ℕ). 10 ^ z) e ∙ pow-add 10 (12 - i) (k - 12)
 
 pub finer : (s : Bool) (n i k : ℕ) → i ≤ k → round binary32 s (n * 10 ^ (k - i) * tens_above k) (tens_below k) ≡ round binary32 s (n * tens_above i) (tens_below i)
-finer s n i k h =
-    round_same binary32 s (n * 10 ^ (k - i) * tens_above k) (tens_below k) (n * tens_above i) (tens_below i) (ten_pos (k - 12)) (ten_pos (i - 12))
-    (ap (λ (z : ℕ). z * tens_below i) (mul_assoc n (10 ^ (k - i)) (tens_above k)) ∙ mul_assoc n (10 ^ (k - i) * tens_above k) (tens_below i) ∙ ap (λ (z : ℕ). n * z) (powers i k h) ∙ sym (mul_assoc n (tens_above i) (tens_below k)))
+finer s n i k h = grind (arith, round_same, tens_above, tens_below, ten_pos, mul_assoc, powers)
 
 -- what lies between two numbers that read as x reads as x
 between : (M a w b u X : ℕ) → a ≤ w → w ≤ b → Inside M a u X → Inside M b u X → Inside M w u X
-between M a w b u X h k x y =
-    let x0 = x.high in let x1 = x.low in let y0 = y.high in let y1 = y.low in
-    record {
-      high = omega arith;
-      low = omega arith;
-      low_two = λ e. (let z = x.low_two e in omega arith);
-      tie_high = λ e. y.tie_high (omega arith);
-      tie_low = λ e. x.tie_low (omega arith);
-    }
+between M a w b u X h k x y = grind arith
 
 pub between_reads : (x : Float) (s : Bool) (M j k a w b : ℕ) → Parts x s M j → a ≤ w → w ≤ b
     → round binary32 s (a * tens_above k) (tens_below k) ≡ x → round binary32 s (b * tens_above k) (tens_below k) ≡ x → round binary32 s (w * tens_above k) (tens_below k) ≡ x
@@ -69,9 +60,6 @@ first x s M j n p e h =
     let f = Y - Y % step j 0 in
     elim (chosen_one (within M f (gap j 0)) (within M (f + step j 0) (gap j 0)) (leb (step j 0) (2 * (Y % step j 0))) (M * gap j 0 / step j 0) n e h) [ inl g ↦ let g0 = g.0 in omega arith | inr g ↦ let g0 = g.0 in omega arith ]
 
-ten_more : (t : ℕ) → 10 ^ suc t ≡ 10 ^ t * 10
-ten_more t = pow-suc 10 t
-
 pub fewest : (x : Float) (s : Bool) (M j n i : ℕ) → Parts x s M j → n ≡ units_at M (gap j i) (step j i) → (n ≡ 0 → i ≡ 28)
     → ((k : ℕ) → k < i → units_at M (gap j k) (step j k) ≡ 0)
     → (n' i' t : ℕ) → n' < 10 ^ t → round binary32 s (n' * tens_above i') (tens_below i') ≡ x → n < 10 ^ t
@@ -79,7 +67,7 @@ fewest x s M j n i p e z none n' i' zero h r = let g = some x s M j n' i' p r in
 fewest x s M j n zero p e z none n' i' (suc t) h r =
     let b : n < 10 = first x s M j n p e (result_some x s M j n 0 p e z) in
     let c : 1 * 10 ≤ 10 ^ t * 10 = mul-le-mul_right 10 (ten_pos t) in
-    let d = ten_more t in
+    let d = pow-suc 10 t in
     omega arith
 fewest x s M j n (suc i) p e z none n' i' (suc t) h r =
     elim (cases_lt n (10 ^ suc t)) [

@@ -1,5 +1,5 @@
 -- A bare text has no more decimals than any decimal that reads as the float has.
-use Rattle.std.proofs.Common.{◌≡◌, ℕ, ◌+◌, ◌-◌, ◌*◌, ◌/◌, ◌%◌, ◌^◌, ◌<◌, ◌≤◌, Bool, true, T, leb, sym, ap, ◌∙◌, inl, inr, mul-one, arith, lit<}
+use Rattle.std.proofs.Common.{◌≡◌, ℕ, ◌+◌, ◌-◌, ◌*◌, ◌^◌, ◌<◌, ◌≤◌, Bool, true, T, sym, ap, ◌∙◌, inl, inr, arith, lit<}
 use lib.Ieee.{Float, binary32, round, fits, to_bits}
 use Rattle.std.proofs.lemmas.Bool.{cases_lt}
 use Rattle.std.specs.Float.{is_sign_negative}
@@ -16,12 +16,7 @@ use Rattle.digits.proofs.Values.{parts_of, sign_of}
 
 -- a decimal with p places is a number of units of the place 12 + p
 at_place : (s : Bool) (w p : ℕ) → round binary32 s (w * tens_above (12 + p)) (tens_below (12 + p)) ≡ nearest_float s w p
-at_place s w p =
-    let a : 12 - (12 + p) ≡ 0 = omega arith in
-    let b : 12 + p - 12 ≡ p = omega arith in
-    ap (λ (z : ℕ). round binary32 s (w * 10 ^ z) (tens_below (12 + p))) a
-    ∙ ap (λ (z : ℕ). round binary32 s z (tens_below (12 + p))) (mul-one w)
-    ∙ ap (λ (z : ℕ). round binary32 s w (10 ^ z)) b
+at_place s w p = grind arith
 
 found_decimals : {x : Float} {s : Bool} {M j n : ℕ} (i : ℕ) → Found x s M j n i → (w p : ℕ) → nearest_float s w p ≡ x → i - 12 ≤ p
 found_decimals {x} {s} {M} {j} i f w p e = elim (cases_lt (12 + p) i) [
@@ -44,9 +39,4 @@ some_decimals x s M j q w p e =
     omega arith
 
 pub fewest_decimals : (x : Float) → T (fits binary32 x) → bare_domain x ≡ true → (w p : ℕ) → nearest_float (is_sign_negative x) w p ≡ x → places (bare x) ≤ p
-fewest_decimals x f h w p e =
-    let d = in_domain x h in
-    elim d.1 [
-      | inl z ↦ let k : places (bare x) ≡ 0 = ap places (bare_nought x z) ∙ zero_places (is_sign_negative x) in omega arith
-      | inr l ↦ some_decimals x (leb 2147483648 (to_bits binary32 x)) (8388608 + to_bits binary32 x % 8388608) (to_bits binary32 x % 2147483648 / 8388608 - 1) (parts_of x f d.0 l) w p e
-    ]
+fewest_decimals x f h w p e = grind (arith, in_domain, bare_nought, zero_places, is_sign_negative, some_decimals, to_bits, parts_of)

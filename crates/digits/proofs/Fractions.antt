@@ -1,5 +1,5 @@
 -- The whole part and the fraction of a float: both are floats, so taking them loses nothing.
-use Rattle.std.proofs.Common.{◌≡◌, ℕ, zero, suc, ◌+◌, ◌-◌, ◌*◌, ◌/◌, ◌%◌, ◌^◌, ◌<◌, ◌≤◌, Bool, true, false, cond, not, ◌&&◌, T, eqb, ltb, leb, ◌⊎◌, sym, refl, ap, ◌∙◌, subst, inl, inr, true≢false, le_trans, le_of_eq, le_of_lt, mul-le-mul_right, mul_assoc, mul_comm, eq-zero-or-pos, mul-le-mul_left, mul-pos, div-add-mod', zero-mul, mul-one, mul_right_comm, div-mul-le_self, le_of_mul-le-mul_right, mul-div_cancel, arith, lit<, pow_pos, pow_mono, pow-add}
+use Rattle.std.proofs.Common.{◌≡◌, ℕ, zero, suc, ◌+◌, ◌-◌, ◌*◌, ◌/◌, ◌%◌, ◌^◌, ◌<◌, ◌≤◌, Bool, true, false, cond, not, ◌&&◌, T, ltb, ◌⊎◌, sym, refl, ap, ◌∙◌, subst, inl, inr, true≢false, le_trans, le_of_eq, le_of_lt, mul-le-mul_right, mul_assoc, mul_comm, eq-zero-or-pos, mul-le-mul_left, mul-pos, div-add-mod', zero-mul, mul-one, mul_right_comm, div-mul-le_self, le_of_mul-le-mul_right, mul-div_cancel, arith, lit<, pow_pos, pow_mono, pow-add}
 use mathlib.Core.Bool.{false≢true}
 use native.Mathlib.Nat.{mul-mod_left, mod-le, eq_of_mul-eq-mul_right}
 use lib.Ieee.{Float, nan, inf, fin, binary32, up, down, fits, to_bits, of_bits, round, sum, add, sub, neg, le}
@@ -15,6 +15,7 @@ use Rattle.digits.specs.Rounded.{fraction, is_whole}
 use Rattle.digits.proofs.Shortness.{sub_mul}
 use Rattle.digits.proofs.Searched.{mod_scale}
 use Rattle.digits.proofs.Values.{field_grains, bits_value, grains_of, grains_le, le_grains}
+use lib.Ieee.Bits.{is_true}
 
 -- ---- a value in another scale
 pub rescaled : (x : Float) (s : Bool) (num den a c : ℕ) → 0 < den → num * c ≡ a * den → HasValue x s num den → HasValue x s a c
@@ -41,20 +42,17 @@ field_digits zero t h = (t, 0, omega arith, sym (mul-one t))
 field_digits (suc k) t h = (2 ^ 23 + t, k, omega arith, refl)
 
 pub float_digits : (x : Float) → T (fits binary32 x) → T (finite x) → Digits (grains x)
-float_digits x p h = go (to_bits binary32 x) (bits_value x p h)
-  where
-    go : (b : ℕ) → HasValue x (leb 2147483648 b) (field_grains (b % 2147483648 / 8388608) (b % 8388608)) (2 ^ 149) → Digits (grains x)
-    go b v = subst Digits (sym (grains_of x (leb 2147483648 b) (field_grains (b % 2147483648 / 8388608) (b % 8388608)) v)) (field_digits (b % 2147483648 / 8388608) (b % 8388608) (omega arith))
+float_digits x p h = grind (arith, to_bits, bits_value, field_grains, grains_of, field_digits)
 
 above_one : (k : ℕ) → 149 ≤ k → 2 ^ k ≡ 2 ^ (k - 149) * 2 ^ 149
-above_one k h = let e : k ≡ k - 149 + 149 = omega arith in ap (λ (z : ℕ). 2 ^ z) e ∙ pow-add 2 (k - 149) 149
+above_one k h = grind (arith, pow-add)
 
 below_one : (k : ℕ) → k < 149 → 2 ^ 149 ≡ 2 ^ (149 - k) * 2 ^ k
 below_one k h = let e : 149 ≡ 149 - k + k = omega arith in ap (λ (z : ℕ). 2 ^ z) e ∙ pow-add 2 (149 - k) k
 
 -- the float is whole where its last digit stands at one or above
 whole_grains : (a q k : ℕ) → a ≡ q * 2 ^ k → 149 ≤ k → a ≡ q * 2 ^ (k - 149) * 2 ^ 149
-whole_grains a q k e h = e ∙ ap (λ (z : ℕ). q * z) (above_one k h) ∙ sym (mul_assoc q (2 ^ (k - 149)) (2 ^ 149))
+whole_grains a q k e h = grind (arith, above_one, mul_assoc)
 
 pub whole_digits : (a : ℕ) → Digits a → Digits (a / 2 ^ 149 * 2 ^ 149)
 whole_digits a d = go d.0 d.1 d.2 d.3
@@ -108,27 +106,12 @@ pub trunc_value : (x : Float) (s : Bool) (a : ℕ) → HasValue x s a (2 ^ 149) 
 unfolding round_with
 trunc_value nan s a v d h = absurd v
 trunc_value (inf t) s a v d h = absurd v
-trunc_value (fin true m e) s a v d h =
-    let q : m * up e / down e ≡ a / 2 ^ 149 = div_same (m * up e) (down e) a (2 ^ 149) (down_pos e) (pow_pos 149) v.1 in
-    subst (λ (z : ℕ). HasValue (round binary32 true z 1) s (a / 2 ^ 149 * 2 ^ 149) (2 ^ 149)) (sym q)
-    (subst (λ (z : Bool). HasValue (round binary32 z (a / 2 ^ 149) 1) s (a / 2 ^ 149 * 2 ^ 149) (2 ^ 149)) (sym v.0) (whole_value s a d h))
-trunc_value (fin false m e) s a v d h =
-    let q : m * up e / down e ≡ a / 2 ^ 149 = div_same (m * up e) (down e) a (2 ^ 149) (down_pos e) (pow_pos 149) v.1 in
-    subst (λ (z : ℕ). HasValue (round binary32 false z 1) s (a / 2 ^ 149 * 2 ^ 149) (2 ^ 149)) (sym q)
-    (subst (λ (z : Bool). HasValue (round binary32 z (a / 2 ^ 149) 1) s (a / 2 ^ 149 * 2 ^ 149) (2 ^ 149)) (sym v.0) (whole_value s a d h))
+trunc_value (fin true m e) s a v d h = grind (arith, div_same, down_pos, pow_pos, whole_value)
+trunc_value (fin false m e) s a v d h = grind (arith, div_same, down_pos, pow_pos, whole_value)
 
 -- ---- the difference of two floats of one sign
 ltb_same : (A B a b c L : ℕ) → 0 < c → 0 < L → A * L ≡ a * c → B * L ≡ b * c → ltb B A ≡ ltb b a
-ltb_same A B a b c L C P e f = elim (cases_lt b a) [
-  | inl h ↦
-      let g : b * c < a * c = native.Mathlib.Nat.mul-lt-mul_of_pos_right h C in
-      let k : B * L < A * L = omega arith in
-      lt-ltb B A (native.Mathlib.Nat.lt_of_mul-lt-mul_right L k) ∙ sym (lt-ltb b a h)
-  | inr h ↦
-      let g : a * c ≤ b * c = mul-le-mul_right c h in
-      let k : A * L ≤ B * L = omega arith in
-      le-ltb B A (le_of_mul-le-mul_right k P) ∙ sym (le-ltb b a h)
-]
+ltb_same A B a b c L C P e f = grind (arith, cases_lt, lt-ltb, mul-le-mul_right, le-ltb, le_of_mul-le-mul_right)
 
 difference : (s : Bool) (A B c a b q j : ℕ) → 0 < c → A * 2 ^ 149 ≡ a * c → B * 2 ^ 149 ≡ b * c → b ≤ a → q < 2 ^ 24 → a - b ≡ q * 2 ^ j → a < 2 ^ 277
     → HasValue (sum binary32 s A (not s) B c) (s && ltb b a) (a - b) (2 ^ 149)
@@ -188,23 +171,13 @@ nought_value : HasValue nought false 0 (2 ^ 149)
 unfolding of_bits
 nought_value = (refl, refl)
 
-pub is_true : (b : Bool) → T b → b ≡ true
-is_true true h = refl
-is_true false h = absurd h
-
 -- no negative number is above zero
 not_below : (f : Float) (r : ℕ) → HasValue f true r (2 ^ 149) → 0 < r → le nought f ≡ true → ⊥
 unfolding le of_bits
 not_below nan r v p h = absurd v
 not_below (inf t) r v p h = absurd v
 not_below (fin false n d) r v p h = absurd (false≢true v.0)
-not_below (fin true n d) r v p h =
-    let a : 0 * 1 * down d ≡ 0 = zero-mul (down d) in
-    let b : 0 * 1 * down d ≡ n * up d * 1 = eqb-true (0 * 1 * down d) (n * up d * 1) (and_parts (eqb (0 * 1 * down d) (n * up d * 1)) _ h).0 in
-    let z : n * up d ≡ 0 = sym (mul-one (n * up d)) ∙ sym b ∙ a in
-    let e : 0 * 2 ^ 149 ≡ r * down d = ap (λ (t : ℕ). t * 2 ^ 149) (sym z) ∙ v.1 in
-    let q : 0 < r * down d = mul-pos p (down_pos d) in
-    omega arith
+not_below (fin true n d) r v p h = grind (arith, zero-mul, eqb-true, and_parts, mul-one, mul-pos, down_pos)
 
 pub whole_cases : (x : Float) (s : Bool) (a : ℕ) → HasValue x s a (2 ^ 149) → Digits a → a ≤ 2 ^ 189 → is_whole x ≡ true → (a % 2 ^ 149 ≡ 0) ⊎ ((s ≡ false) × (a % 2 ^ 149 ≤ 4))
 whole_cases x true a v d h w = elim (eq-zero-or-pos (a % 2 ^ 149)) [

@@ -1,6 +1,5 @@
 -- At its place, the units chosen are the nearest that read back, and the larger of two as near.
 use Rattle.std.proofs.Common.{◌≡◌, ℕ, suc, ◌+◌, ◌-◌, ◌*◌, ◌/◌, ◌%◌, ◌<◌, ◌≤◌, Bool, true, false, leb, ◌⊎◌, refl, ap, ◌∙◌, inl, inr, mul-le-mul_right, mod-lt, suc-mul, add-mul, one-mul, arith}
-use mathlib.Core.Bool.{false≢true}
 use Rattle.std.proofs.lemmas.Bool.{cases_lt, leb-true, leb-false}
 use Rattle.digits.specs.Magnitudes.{apart}
 use Rattle.digits.specs.Scaled.{within, units_at, chosen}
@@ -10,9 +9,9 @@ chosen_because : (lo hi half : Bool) (n r : ℕ) → r ≡ chosen lo hi half n �
     → ((r ≡ n) × (lo ≡ true) × (hi ≡ true → half ≡ false)) ⊎ ((r ≡ n + 1) × (hi ≡ true) × (lo ≡ true → half ≡ true))
 chosen_because true true true n r e h = inr (e, refl, λ z. refl)
 chosen_because true true false n r e h = inl (e, refl, λ z. refl)
-chosen_because true false half n r e h = inl (e, refl, λ z. absurd (false≢true z))
+chosen_because true false half n r e h = grind arith
 chosen_because false true true n r e h = inr (e, refl, λ z. refl)
-chosen_because false true false n r e h = inr (e, refl, λ z. absurd (false≢true z))
+chosen_because false true false n r e h = grind arith
 chosen_because false false half n r e h = absurd (omega arith)
 
 pub nearest : (M u v n w : ℕ) → 0 < u → 0 < v → n ≡ units_at M u v → 0 < n → within M (w * v) u ≡ true

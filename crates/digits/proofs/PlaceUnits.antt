@@ -1,14 +1,14 @@
 -- The units that the code chooses at one place: they read back, and it chooses some wherever any read back.
 -- M is the significand, j the power of two, u the gap and v the step of the place, and X is M * u, the float.
-use Rattle.std.proofs.Common.{◌≡◌, ℕ, suc, ◌+◌, ◌-◌, ◌*◌, ◌/◌, ◌%◌, ◌^◌, ◌<◌, ◌≤◌, Bool, true, false, cond, ◌&&◌, eqb, ltb, leb, ◌⊎◌, sym, refl, ap, ◌∙◌, subst, inl, inr, mul-le-mul_right, mod-lt, mul_assoc, suc-mul, mul_comm, add-mul, eq-zero-or-pos, mul-pos, one-mul, div-add-mod', zero-mul, mul-one, le_of_mul-le-mul_right, arith, lit<, pow_pos, pow_mono, pow-add}
-use native.Mathlib.Nat.{eq_of_mul-eq-mul_right, pow-le-pow_right}
+use Rattle.std.proofs.Common.{◌≡◌, ℕ, suc, ◌+◌, ◌-◌, ◌*◌, ◌/◌, ◌%◌, ◌^◌, ◌<◌, ◌≤◌, Bool, true, false, cond, ◌&&◌, eqb, ltb, leb, ◌⊎◌, sym, refl, ap, ◌∙◌, subst, inl, inr, mul-le-mul_right, mod-lt, mul_assoc, suc-mul, mul_comm, add-mul, eq-zero-or-pos, mul-pos, one-mul, mul-one, le_of_mul-le-mul_right, arith, pow_pos, pow_mono, pow-add}
+use native.Mathlib.Nat.{eq_of_mul-eq-mul_right}
 use lib.Ieee.{Float, binary32, round}
-use Rattle.std.proofs.lemmas.Bool.Decides.{nat_tests}
 use Rattle.std.proofs.lemmas.Bool.{cases_lt}
 use Rattle.digits.specs.Bare.{tens_above, tens_below}
 use Rattle.digits.specs.Scaled.{Parts, within, gap, step, units_at, chosen}
 use Rattle.digits.proofs.Between.{Inside}
 use Rattle.digits.proofs.ReadsBack.{reads_back, inside}
+use Rattle.digits.proofs.Texts.{ten_pos}
 
 -- ---- the test of the code
 abbrev tests : ℕ → ℕ → ℕ → ℕ → Bool
@@ -17,16 +17,10 @@ tests m n u X =
     && cond (eqb m 8388608) (leb (4 * X) (4 * n + u)) (cond (eqb (m % 2) 0) (leb (2 * X) (2 * n + u)) (ltb (2 * X) (2 * n + u)))
 
 pub tests_inside : (m n u X : ℕ) → tests m n u X ≡ true → Inside m n u X
-tests_inside m n u X e = record {
-  high = grind (arith, nat_tests);
-  low = grind (arith, nat_tests);
-  low_two = λ z. grind (arith, nat_tests);
-  tie_high = λ z. grind (arith, nat_tests);
-  tie_low = λ z. grind (arith, nat_tests);
-}
+tests_inside m n u X e = grind arith
 
 pub inside_tests : (m n u X : ℕ) → Inside m n u X → tests m n u X ≡ true
-inside_tests m n u X x = let a = x.high in let b = x.low in let c = x.low_two in let d = x.tie_high in let e = x.tie_low in grind (arith, nat_tests)
+inside_tests m n u X x = grind arith
 
 -- ---- a common factor
 twice_scaled : (a b u G : ℕ) → 2 * a ≤ 2 * b + u → 2 * (a * G) ≤ 2 * (b * G) + u * G
@@ -48,22 +42,10 @@ tie_unscaled : (a b u G : ℕ) → 0 < G → 2 * (a * G) ≡ 2 * (b * G) + u * G
 tie_unscaled a b u G P e = eq_of_mul-eq-mul_right G P (2 * a) (2 * b + u) (mul_assoc 2 a G ∙ e ∙ sym (add-mul (2 * b) u G ∙ ap (λ (z : ℕ). z + u * G) (mul_assoc 2 b G)))
 
 pub scale : (M n U X G : ℕ) → 0 < G → Inside M n U X → Inside M (n * G) (U * G) (X * G)
-scale M n U X G P x = record {
-  high = twice_scaled n X U G x.high;
-  low = twice_scaled X n U G x.low;
-  low_two = λ e. four_scaled X n U G (x.low_two e);
-  tie_high = λ e. x.tie_high (tie_unscaled n X U G P e);
-  tie_low = λ e. x.tie_low (tie_unscaled X n U G P e);
-}
+scale M n U X G P x = grind (arith, twice_scaled, four_scaled, tie_unscaled)
 
 pub unscale : (M n U X G : ℕ) → 0 < G → Inside M (n * G) (U * G) (X * G) → Inside M n U X
-unscale M n U X G P x = record {
-  high = twice_unscaled n X U G P x.high;
-  low = twice_unscaled X n U G P x.low;
-  low_two = λ e. four_unscaled X n U G P (x.low_two e);
-  tie_high = λ e. x.tie_high (tie_scaled n X U G e);
-  tie_low = λ e. x.tie_low (tie_scaled X n U G e);
-}
+unscale M n U X G P x = grind (arith, twice_unscaled, four_unscaled, tie_scaled)
 
 -- ---- the code's numbers are the fraction's, over 2 ^ the lesser of 149 and j
 abbrev pub common_power : ℕ → ℕ
@@ -86,19 +68,10 @@ gap_scaled i j =
     ap (λ (z : ℕ). tens_below i * 2 ^ z) e ∙ ap (λ (z : ℕ). tens_below i * z) (pow-add 2 (j - 149) (common_power j)) ∙ swap_in (tens_below i) (2 ^ (j - 149)) (2 ^ common_power j)
 
 inside_scaled : (M n i j : ℕ) → Inside M (n * tens_above i * 2 ^ 149) (tens_below i * 2 ^ j) (M * (tens_below i * 2 ^ j)) ≡ Inside M (n * step j i * 2 ^ common_power j) (gap j i * 2 ^ common_power j) (M * gap j i * 2 ^ common_power j)
-inside_scaled M n i j =
-    ap (λ (z : ℕ). Inside M z (tens_below i * 2 ^ j) (M * (tens_below i * 2 ^ j))) (units_scaled n i j)
-    ∙ ap (λ (z : ℕ). Inside M (n * step j i * 2 ^ common_power j) z (M * z)) (gap_scaled i j)
-    ∙ ap (λ (z : ℕ). Inside M (n * step j i * 2 ^ common_power j) (gap j i * 2 ^ common_power j) z) (sym (mul_assoc M (gap j i) (2 ^ common_power j)))
-
-pub ten_pos : (k : ℕ) → 0 < 10 ^ k
-ten_pos k = let b : 0 ≤ k = omega arith in pow-le-pow_right {n = 10} (lit< tt) b
+inside_scaled M n i j = grind (arith, tens_below, units_scaled, gap_scaled, mul_assoc)
 
 pub within_reads : (x : Float) (s : Bool) (M j n i : ℕ) → Parts x s M j → within M (n * step j i) (gap j i) ≡ true → round binary32 s (n * tens_above i) (tens_below i) ≡ x
-within_reads x s M j n i p e =
-    reads_back x s M j (n * tens_above i) (tens_below i) p (ten_pos (i - 12))
-    (subst (λ (A : Type 0). A) (sym (inside_scaled M n i j))
-    (scale M (n * step j i) (gap j i) (M * gap j i) (2 ^ common_power j) (pow_pos (common_power j)) (tests_inside M (n * step j i) (gap j i) (M * gap j i) e)))
+within_reads x s M j n i p e = grind (arith, reads_back, tens_above, tens_below, ten_pos, inside_scaled, scale, pow_pos, tests_inside)
 
 pub reads_within : (x : Float) (s : Bool) (M j n i : ℕ) → Parts x s M j → round binary32 s (n * tens_above i) (tens_below i) ≡ x → within M (n * step j i) (gap j i) ≡ true
 reads_within x s M j n i p e =
@@ -108,44 +81,20 @@ reads_within x s M j n i p e =
 
 -- ---- what lies between x and a number that reads as x reads as x
 pub under : (M w f u X : ℕ) → 0 < u → w ≤ f → f ≤ X → Inside M w u X → Inside M f u X
-under M w f u X P h k x =
-    let a = x.high in let b = x.low in record {
-      high = omega arith;
-      low = omega arith;
-      low_two = λ e. (let c = x.low_two e in omega arith);
-      tie_high = λ e. absurd (omega arith);
-      tie_low = λ e. x.tie_low (omega arith);
-    }
+under M w f u X P h k x = grind arith
 
 pub over : (M w f u X : ℕ) → 0 < u → f ≤ w → X ≤ f → Inside M w u X → Inside M f u X
-over M w f u X P h k x =
-    let a = x.high in let b = x.low in record {
-      high = omega arith;
-      low = omega arith;
-      low_two = λ e. omega arith;
-      tie_high = λ e. x.tie_high (omega arith);
-      tie_low = λ e. absurd (omega arith);
-    }
+over M w f u X P h k x = grind arith
 
 -- ---- where any number at the place i reads as x, the code finds one there
 pub floor_multiple : (X v : ℕ) → X - X % v ≡ X / v * v
-floor_multiple X v = let e = div-add-mod' X v in omega arith
+floor_multiple X v = grind arith
 
 chosen_some : (lo hi half : Bool) (n : ℕ) → (lo ≡ true → 0 < n) → (lo ≡ true) ⊎ (hi ≡ true) → chosen lo hi half n ≡ 0 → ⊥
 chosen_some lo hi half n pos e z = grind arith
 
 low_pos : (M u v : ℕ) → 0 < M → 0 < u → within M (M * u - M * u % v) u ≡ true → 0 < M * u / v
-low_pos M u v P U e =
-    elim (eq-zero-or-pos (M * u / v)) [
-      | inr p ↦ p
-      | inl z ↦
-          let x = tests_inside M (M * u - M * u % v) u (M * u) e in
-          let l = x.low in
-          let q = floor_multiple (M * u) v in
-          let q0 : M * u / v * v ≡ 0 = ap (λ (t : ℕ). t * v) z ∙ zero-mul v in
-          let g : 1 * u ≤ M * u = mul-le-mul_right u P in
-          absurd (omega arith)
-    ]
+low_pos M u v P U e = grind arith
 
 pub found : (M u v w : ℕ) → 0 < M → 0 < u → 0 < v → within M (w * v) u ≡ true → units_at M u v ≡ 0 → ⊥
 found M u v w P U V h z =
@@ -170,11 +119,7 @@ pub chosen_one : (lo hi half : Bool) (n r : ℕ) → r ≡ chosen lo hi half n �
 chosen_one true true true n r e h = inr (e, refl)
 chosen_one true true false n r e h = inl (e, refl)
 chosen_one true false half n r e h = inl (e, refl)
-chosen_one false true half n r e h = inr (drop_or half e, refl)
-  where
-    drop_or : (half : Bool) → r ≡ chosen false true half n → r ≡ n + 1
-    drop_or true e = e
-    drop_or false e = e
+chosen_one false true half n r e h = grind arith
 chosen_one false false half n r e h = absurd (omega arith)
 
 pub picked : (M u v r : ℕ) → r ≡ units_at M u v → 0 < r → within M (r * v) u ≡ true
@@ -192,14 +137,7 @@ picked M u v r e h =
 
 -- at the last place there is always one
 pub fine : (M u v : ℕ) → 0 < u → 0 < v → 4 * v ≤ u → within M (M * u / v * v) u ≡ true
-fine M u v U V h =
-    let X = M * u in
-    let r : X % v < v = mod-lt X V in
-    let e = floor_multiple X v in
-    inside_tests M (X / v * v) u X (close (X / v * v) (M * u) (omega arith) (omega arith))
-  where
-    close : (f X : ℕ) → f ≤ X → 4 * X < 4 * f + u → Inside M f u X
-    close f X a b = record { high = omega arith; low = omega arith; low_two = λ e. omega arith; tie_high = λ e. absurd (omega arith); tie_low = λ e. absurd (omega arith) }
+fine M u v U V h = grind arith
 
 pub last_fine : (j : ℕ) → 99 ≤ j → j ≤ 166 → 4 * step j 28 ≤ gap j 28
 last_fine j h k =
@@ -210,13 +148,13 @@ last_fine j h k =
     omega arith
 
 pub gap_pos : (j i : ℕ) → 0 < gap j i
-gap_pos j i = mul-pos (pow_pos (j - 149)) (ten_pos (i - 12))
+gap_pos j i = grind (arith, mul-pos, pow_pos, ten_pos)
 
 pub step_pos : (j i : ℕ) → 0 < step j i
-step_pos j i = mul-pos (pow_pos (149 - j)) (ten_pos (12 - i))
+step_pos j i = grind (arith, mul-pos, pow_pos, ten_pos)
 
 pub significand_some : {x : Float} {s : Bool} {M j : ℕ} → Parts x s M j → 0 < M
-significand_some p = let h = p.full in omega arith
+significand_some p = grind arith
 
 pub result_some : (x : Float) (s : Bool) (M j n i : ℕ) → Parts x s M j → n ≡ units_at M (gap j i) (step j i) → (n ≡ 0 → i ≡ 28) → 0 < n
 result_some x s M j n i p e z = elim (eq-zero-or-pos n) [

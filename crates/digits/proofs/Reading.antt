@@ -1,7 +1,7 @@
 -- A decimal reads as a float that no other float is nearer than, and at a tie as the even one.
-use Rattle.std.proofs.Common.{◌≡◌, ℕ, zero, suc, ◌+◌, ◌-◌, ◌*◌, ◌/◌, ◌%◌, ◌^◌, ◌<◌, ◌≤◌, Bool, true, false, cond, T, ltb, sym, refl, ap, ◌∙◌, subst, inl, inr, le_trans, le_of_eq, lt_of_lt_of_le, mul-le-mul_right, mul_assoc, suc-mul, mul_comm, mul-le-mul_left, mul-lt-mul_of_pos_right, mul-pos, pow-suc, div-add-mod', mul_right_comm, mul-div_cancel, arith, lit<, ltb→lt, pow_pos, pow_mono, pow-add}
+use Rattle.std.proofs.Common.{◌≡◌, ℕ, zero, suc, ◌+◌, ◌-◌, ◌*◌, ◌/◌, ◌%◌, ◌^◌, ◌<◌, ◌≤◌, Bool, true, false, cond, T, sym, refl, ap, ◌∙◌, subst, inl, inr, le_trans, le_of_eq, lt_of_lt_of_le, mul-le-mul_right, mul_assoc, suc-mul, mul_comm, mul-le-mul_left, mul-lt-mul_of_pos_right, mul-pos, pow-suc, div-add-mod', mul_right_comm, mul-div_cancel, arith, lit<, pow_pos, pow_mono, pow-add}
 use native.Mathlib.Nat.{mul-mod_left, eq_of_mul-eq-mul_right}
-use lib.Ieee.{Float, inf, binary32, to_bits, units, odd, size}
+use lib.Ieee.{Float, binary32, to_bits, units, size}
 use lib.Ieee.Digits.{size-le, size_reaches}
 use lib.Ieee.Exact.{HasValue}
 use lib.Ieee.Fits.{round_is}
@@ -19,20 +19,15 @@ use Rattle.digits.proofs.ReadsBack.{rounded_grains, bits_of}
 use Rattle.digits.proofs.Steps.{round_value}
 use Rattle.digits.proofs.Texts.{ten_pos}
 use Rattle.digits.proofs.Values.{grains_of}
+use Rattle.std.proofs.lemmas.Float.{T_from_true}
 
 -- ---- what is read is finite
 units_small : (s : Bool) (q k : ℕ) → T (finite (units binary32 s q k)) → q * 2 ^ k < 2 ^ 277
 unfolding units
-units_small s q k = go (ltb (q * 2 ^ k) (2 ^ 277)) (ltb→lt (q * 2 ^ k) (2 ^ 277))
-  where
-    go : (b : Bool) → (T b → q * 2 ^ k < 2 ^ 277) → T (finite (cond b (odd 25 s q k 149) (inf s))) → q * 2 ^ k < 2 ^ 277
-    go true h f = h tt
-    go false h f = absurd f
+units_small s q k = grind arith
 
 read_value : (s : Bool) (n k : ℕ) → T (finite (nearest_float s n k)) → HasValue (nearest_float s n k) s (rounded_grains n (10 ^ k)) (2 ^ 149)
-read_value s n k h =
-    let D = 10 ^ k in
-    round_value s n D (units_small s (kept 24 (n * 2 ^ 149) D) (drop 24 (n * 2 ^ 149) D) (subst (λ (z : Float). T (finite z)) (round_is binary32 s n D) h))
+read_value s n k h = grind (arith, round_value, units_small, round_is)
 
 -- ---- the nearest multiple of u
 multiple_nearest : (N u K B : ℕ) → Near N u K (K * u) → apart N (K * u) ≤ apart N (B * u)
@@ -57,12 +52,7 @@ multiple_tie N u K B U x e n =
 
 -- ---- a float's grains b: a multiple of the gap read, or below all that has as many digits
 scaled : (S j d D : ℕ) → d ≤ j → S * 2 ^ j * D ≡ S * 2 ^ (j - d) * (D * 2 ^ d)
-scaled S j d D h =
-    let e : j ≡ j - d + d = omega arith in
-    ap (λ (z : ℕ). S * z * D) (ap (λ (z : ℕ). 2 ^ z) e ∙ pow-add 2 (j - d) d)
-    ∙ ap (λ (z : ℕ). z * D) (sym (mul_assoc S (2 ^ (j - d)) (2 ^ d)))
-    ∙ mul_assoc (S * 2 ^ (j - d)) (2 ^ d) D
-    ∙ ap (λ (z : ℕ). S * 2 ^ (j - d) * z) (mul_comm (2 ^ d) D)
+scaled S j d D h = grind (arith, pow-add, mul_assoc, mul_comm)
 
 below : (S j d D : ℕ) → S < 2 ^ 24 → j < d → 0 < D → S * 2 ^ j * D < 2 ^ 23 * (D * 2 ^ d)
 below S j zero D small h P = absurd (omega arith)
@@ -156,11 +146,11 @@ reading_stands s n k y h f i =
     let D = 10 ^ k in
     let N = n * 2 ^ 149 in
     let r = nearest_float s n k in
-    let v = read_value s n k (subst T (sym h) tt) in
+    let v = read_value s n k (T_from_true _ h) in
     let d = drop 24 N D in
     let K = kept 24 N D in
     let g : grains r ≡ K * 2 ^ d = grains_of r s (K * 2 ^ d) v in
-    let c = against N D (grains y) (ten_pos k) (float_digits y (subst T (sym f) tt) (subst T (sym i) tt)) in
+    let c = against N D (grains y) (ten_pos k) (float_digits y (T_from_true _ f) (T_from_true _ i)) in
     let w : grains r * D ≡ K * (D * 2 ^ d) = ap (λ (z : ℕ). z * D) g ∙ mul_assoc K (2 ^ d) D ∙ ap (λ (z : ℕ). K * z) (mul_comm (2 ^ d) D) in
     let a : away r n k ≡ apart N (K * (D * 2 ^ d)) = ap (λ (z : ℕ). apart N z) w in (
       le_trans (le_of_eq a) c.near,

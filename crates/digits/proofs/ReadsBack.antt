@@ -1,7 +1,7 @@
 -- A fraction rounds to the float x just where it lies between the bounds of `Between`.
-use Rattle.std.proofs.Common.{◌≡◌, ℕ, ◌+◌, ◌-◌, ◌*◌, ◌/◌, ◌^◌, ◌<◌, ◌≤◌, Bool, true, false, cond, T, ltb, sym, ap, ◌∙◌, subst, lt_of_lt_of_le, mul-div_cancel, arith, ltb→lt, pow_mono, shl_lt}
+use Rattle.std.proofs.Common.{◌≡◌, ℕ, ◌+◌, ◌-◌, ◌*◌, ◌/◌, ◌^◌, ◌<◌, Bool, cond, T, sym, ◌∙◌, subst, lt_of_lt_of_le, mul-div_cancel, arith, pow_mono, shl_lt}
 use native.Mathlib.Nat.{eq_of_mul-eq-mul_right}
-use lib.Ieee.{Float, nan, inf, fin, Format, binary32, prec, low, up, down, size, odd, units, round, fits, to_bits, of_bits, top, hid}
+use lib.Ieee.{Float, nan, inf, fin, Format, binary32, prec, low, size, units, round, fits, to_bits, of_bits, top, hid}
 use lib.Ieee.Fits.{round_is, round-fits, down_pos}
 use lib.Ieee.Exact.{HasValue, units_val}
 use lib.Ieee.Bits.{of_bits-to_bits}
@@ -14,18 +14,16 @@ pub bits_of : (f : Format) (x : Float) (s : Bool) (a : ℕ) → HasValue x s a (
 unfolding to_bits
 bits_of f nan s a v = absurd v
 bits_of f (inf t) s a v = absurd v
-bits_of f (fin t m e) s a v =
-    ap (λ (u : Bool). cond u (top f) 0 + (size (m * up e * 2 ^ low f / down e) - prec f) * hid f + m * up e * 2 ^ low f / down e / 2 ^ (size (m * up e * 2 ^ low f / down e) - prec f)) v.0
-    ∙ ap (λ (n : ℕ). cond s (top f) 0 + (size n - prec f) * hid f + n / 2 ^ (size n - prec f)) (ap (λ (x : ℕ). x / down e) v.1 ∙ mul-div_cancel a (down_pos e))
+bits_of f (fin t m e) s a v = grind (arith, mul-div_cancel, down_pos)
 
 pub one_way : (f : Format) (x y : Float) (s : Bool) (a : ℕ) → T (fits f x) → T (fits f y) → HasValue x s a (2 ^ low f) → HasValue y s a (2 ^ low f) → x ≡ y
-one_way f x y s a p q v w = sym (of_bits-to_bits f x p) ∙ ap (λ (b : ℕ). of_bits f b) (bits_of f x s a v ∙ sym (bits_of f y s a w)) ∙ of_bits-to_bits f y q
+one_way f x y s a p q v w = grind (arith, of_bits-to_bits, of_bits, bits_of)
 
 -- one number has one size
 pub one_size : (x : Float) (s t : Bool) (a b c : ℕ) → HasValue x s a c → HasValue x t b c → a ≡ b
 one_size nan s t a b c v w = absurd v
 one_size (inf u) s t a b c v w = absurd v
-one_size (fin u m e) s t a b c v w = eq_of_mul-eq-mul_right (down e) (down_pos e) a b (sym v.1 ∙ w.1)
+one_size (fin u m e) s t a b c v w = grind (arith, eq_of_mul-eq-mul_right, down_pos)
 
 -- ---- the rounded fraction, in units of the smallest value
 abbrev pub rounded_grains : ℕ → ℕ → ℕ
@@ -33,11 +31,7 @@ rounded_grains a c = kept 24 (a * 2 ^ 149) c * 2 ^ drop 24 (a * 2 ^ 149) c
 
 units_finite : (s : Bool) (q k : ℕ) (x : Float) (a : ℕ) → units binary32 s q k ≡ x → HasValue x s a (2 ^ 149) → q * 2 ^ k < 2 ^ 277
 unfolding units
-units_finite s q k x a = go (ltb (q * 2 ^ k) (2 ^ 277)) (ltb→lt (q * 2 ^ k) (2 ^ 277))
-  where
-    go : (b : Bool) → (T b → q * 2 ^ k < 2 ^ 277) → cond b (odd 25 s q k 149) (inf s) ≡ x → HasValue x s a (2 ^ 149) → q * 2 ^ k < 2 ^ 277
-    go true h e v = h tt
-    go false h e v = absurd (subst (λ (z : Float). HasValue z s a (2 ^ 149)) (sym e) v)
+units_finite s q k x a = grind arith
 
 pub grains_of_reads : (s : Bool) (num den : ℕ) (x : Float) (a : ℕ) → HasValue x s a (2 ^ 149) → round binary32 s num den ≡ x → rounded_grains num den ≡ a
 grains_of_reads s num den x a v e =
@@ -55,13 +49,13 @@ reads_of_grains s num den x a p v small e =
     (subst (λ (z : ℕ). HasValue (units binary32 s q k) s z (2 ^ 149)) e (units_val binary32 s q k (subst (λ (z : ℕ). z < 2 ^ 277) (sym e) small)))) v
 
 above : {x : Float} {s : Bool} {M j : ℕ} → Parts x s M j → 0 < j
-above p = let h = p.above in omega arith
+above p = grind arith
 
 finite : {x : Float} {s : Bool} {M j : ℕ} → Parts x s M j → M * 2 ^ j < 2 ^ 277
-finite {M = M} {j = j} p = let h = p.below in let l : 24 + j ≤ 277 = omega arith in lt_of_lt_of_le (shl_lt 24 j p.short) (pow_mono l)
+finite {M = M} {j = j} p = grind (arith, lt_of_lt_of_le, shl_lt, pow_mono)
 
 pub reads_back : (x : Float) (s : Bool) (M j num den : ℕ) → Parts x s M j → 0 < den → Inside M (num * 2 ^ 149) (den * 2 ^ j) (M * (den * 2 ^ j)) → round binary32 s num den ≡ x
-reads_back x s M j num den p d i = reads_of_grains s num den x (M * 2 ^ j) p.fit p.value (finite p) (rounds_to M j (num * 2 ^ 149) den d (above p) p.full p.short i)
+reads_back x s M j num den p d i = grind (arith, reads_of_grains, finite, rounds_to, above)
 
 pub inside : (x : Float) (s : Bool) (M j num den : ℕ) → Parts x s M j → 0 < den → round binary32 s num den ≡ x → Inside M (num * 2 ^ 149) (den * 2 ^ j) (M * (den * 2 ^ j))
 inside x s M j num den p d e = bounds_of M j (num * 2 ^ 149) den d (above p) p.full p.short (grains_of_reads s num den x (M * 2 ^ j) p.value e)

@@ -1,16 +1,16 @@
 -- The theorem on `rounded`: its text is plain, and reads as a float that is close to the number.
-use Rattle.std.proofs.Common.{◌≡◌, ℕ, zero, suc, ◌+◌, ◌-◌, ◌*◌, ◌/◌, ◌%◌, ◌^◌, ◌<◌, ◌≤◌, Bool, true, false, cond, not, ◌&&◌, ◌||◌, T, eqb, ◌⊎◌, List, sym, refl, ap, ◌∙◌, subst, inl, inr, le_trans, le_of_eq, mul-le-mul_right, mul_assoc, mul_comm, eq-zero-or-pos, mul-le-mul, mul-le-mul_left, div-add-mod', zero-mul, mul-one, mul_right_comm, div-one, arith, lit<, lit≤, pow_pos, pow-add}
+use Rattle.std.proofs.Common.{◌≡◌, ℕ, zero, suc, ◌+◌, ◌-◌, ◌*◌, ◌/◌, ◌%◌, ◌^◌, ◌<◌, ◌≤◌, Bool, true, false, not, ◌&&◌, T, eqb, ◌⊎◌, List, sym, refl, ap, ◌∙◌, subst, inl, inr, le_trans, le_of_eq, mul-le-mul_right, mul_assoc, mul_comm, eq-zero-or-pos, mul-le-mul, mul-le-mul_left, div-add-mod', zero-mul, mul-one, mul_right_comm, div-one, arith, lit<, lit≤, pow_pos, pow-add}
 use mathlib.Core.Bool.{beq}
 use native.Mathlib.Nat.{eq_of_mul-eq-mul_right, pow-le-pow_right}
-use lib.Ieee.{Float, nan, inf, fin, binary32, up, down, size, round, mul, le, eq, fits, of_bits}
+use lib.Ieee.{Float, nan, inf, fin, binary32, up, size, round, mul, eq, fits, of_bits}
 use lib.Ieee.Exact.{HasValue}
 use lib.Ieee.Fits.{div-fits}
 use lib.Ieee.Order.{drop, kept, round_mono}
 use lib.Ieee.Scale.{round_same}
-use Rattle.std.proofs.lemmas.Bool.{cases_lt, cases_Bool, cond-true, cond-false, eq-eqb, ne_eqb, and_from, or_left, or_right}
+use Rattle.std.proofs.lemmas.Bool.{cases_lt, cases_Bool, cond-true, ne_eqb, and_from, or_left, or_right}
 use Rattle.std.specs.Float.{is_sign_negative, float_with_sign, float_round}
 use Rattle.digits.specs.Decimals.{nearest_float}
-use Rattle.digits.specs.Magnitudes.{grains, apart, nought, least, most, bare_domain, rounded_domain}
+use Rattle.digits.specs.Magnitudes.{grains, apart, nought, bare_domain, rounded_domain}
 use Rattle.digits.specs.Bare.{bare}
 use Rattle.digits.specs.Rounded.{power_of_ten, rounded_value, is_whole, whole_part, whole_text, rounded, distance, Close}
 use Rattle.digits.specs.Theorems.{RoundedStands, RoundedWell}
@@ -18,12 +18,14 @@ use Rattle.digits.proofs.BareText.{bare_stands, zero_stays}
 use Rattle.digits.proofs.Between.{size_past}
 use Rattle.digits.proofs.ErrorBound.{Off, near_enough_high, near_enough_low}
 use Rattle.digits.proofs.FewestDecimals.{fewest_decimals}
-use Rattle.digits.proofs.Fractions.{Digits, float_digits, rest_small, whole_value, whole_cases, whole_if, is_true, exact}
+use Rattle.digits.proofs.Fractions.{Digits, float_digits, rest_small, whole_value, whole_cases, whole_if, exact}
 use Rattle.digits.proofs.ReadsBack.{rounded_grains, one_size}
 use Rattle.digits.proofs.Shortness.{apart_mul}
 use Rattle.digits.proofs.Steps.{Stepped, stepped, product, to_whole, quotient, power_value}
-use Rattle.digits.proofs.Texts.{Lowest, spelling_plain, spelling_reads, spelling_says, ten_pos}
+use Rattle.digits.proofs.Texts.{spelling_plain, spelling_reads, spelling_says, ten_pos, whole_lowest}
 use Rattle.digits.proofs.Values.{valued, grains_of, sign_of, unsigned_value, grains_le, le_grains, least_value, most_value, finite_in, at_most}
+use lib.Ieee.Bits.{is_true}
+use Rattle.std.proofs.lemmas.Float.{T_from_true}
 
 -- ---- the three steps together
 -- q is the rounded value in grains, a the number's, t the power of ten
@@ -39,13 +41,10 @@ pub record Steps (r : Float) (s : Bool) (a t : ℕ) : Type 0 where
 
 -- where the product is rounded to zero
 zero_low : (b g : ℕ) → Off b 1 g → 2 * g ≤ 2 ^ 149 → 2 ^ 21 * b ≤ 2 ^ 20 * 2 ^ 149 + b
-zero_low b g x h = let y = x.low in omega arith
+zero_low b g x h = grind arith
 
 zero_quotient : (q t : ℕ) → 0 < t → Off 0 t (q * t) → q ≡ 0
-zero_quotient q t P x = elim (eq-zero-or-pos q) [
-  | inl z ↦ z
-  | inr p ↦ absurd (let h = x.high in let e : 1 * t ≤ q * t = mul-le-mul_right t p in omega arith)
-]
+zero_quotient q t P x = grind arith
 
 one_value : HasValue (round binary32 false 1 1) false (2 ^ 149) (2 ^ 149)
 unfolding round
@@ -57,18 +56,11 @@ smallest_value = (refl, refl)
 
 -- a whole number above zero stays above zero
 one_kept : (R w : ℕ) → 0 < R → HasValue (round binary32 false R 1) false w (2 ^ 149) → 2 ^ 149 ≤ w
-one_kept R w p v =
-    grains_le (round binary32 false 1 1) (round binary32 false R 1) (2 ^ 149) w one_value v
-    (is_true (le (round binary32 false 1 1) (round binary32 false R 1)) (round_mono binary32 1 1 R 1 (lit< tt) (lit< tt) (omega arith)))
+one_kept R w p v = grind (arith, grains_le, one_value, is_true, round_mono)
 
 -- and its quotient by a power of ten is at least the smallest bare number
 quotient_some : (num den w t q : ℕ) → 0 < den → t ≤ 10 ^ 8 → 2 ^ 149 ≤ w → num * 2 ^ 149 * t ≡ w * den → HasValue (round binary32 false num den) false q (2 ^ 149) → 11258999 * 2 ^ 99 ≤ q
-quotient_some num den w t q D u h e v =
-    let a : 2 ^ 149 * den ≤ w * den = mul-le-mul_right den h in
-    let b : num * t ≤ num * 10 ^ 8 = mul-le-mul_left num u in
-    let c : 1 * den ≤ num * 10 ^ 8 = omega arith in
-    grains_le (round binary32 false 1 (10 ^ 8)) (round binary32 false num den) (11258999 * 2 ^ 99) q smallest_value v
-    (is_true (le (round binary32 false 1 (10 ^ 8)) (round binary32 false num den)) (round_mono binary32 1 (10 ^ 8) num den (lit< tt) D c))
+quotient_some num den w t q D u h e v = grind (arith, mul-le-mul_right, mul-le-mul_left, grains_le, smallest_value, is_true, round_mono)
 
 -- a whole number rounded to a float is a whole number
 whole_kept : (s : Bool) (R : ℕ) → HasValue (round binary32 s R 1) s (rounded_grains R 1) (2 ^ 149) → R * 2 ^ 149 ≤ 2 ^ 220 → (w : ℕ) × (rounded_grains R 1 ≡ w * 2 ^ 149)
@@ -84,35 +76,16 @@ whole_kept s R v h = elim (cases_lt R (2 ^ 24)) [
 ]
 
 as_units : (s : Bool) (num den t g w : ℕ) → 0 < den → 0 < t → num * 2 ^ 149 * t ≡ g * den → g ≡ w * 2 ^ 149 → round binary32 s num den ≡ round binary32 s w t
-as_units s num den t g w D P e f =
-    let k : num * t * 2 ^ 149 ≡ w * den * 2 ^ 149 = mul_right_comm num t (2 ^ 149) ∙ e ∙ ap (λ (z : ℕ). z * den) f ∙ mul_right_comm w (2 ^ 149) den in
-    round_same binary32 s num den w t D P (eq_of_mul-eq-mul_right (2 ^ 149) (pow_pos 149) (num * t) (w * den) k)
+as_units s num den t g w D P e f = grind (arith, mul_right_comm, round_same, eq_of_mul-eq-mul_right, pow_pos)
 
 -- the last step, from the whole number R
 finish : (s : Bool) (a t g R num den : ℕ) → 0 < t → t ≤ 10 ^ 8 → 0 < den → Off (a * t) 1 g → 2 * (R * 2 ^ 149) ≤ 2 * g + 2 ^ 149 → 2 * g ≤ 2 * (R * 2 ^ 149) + 2 ^ 149
     → (k : (w : ℕ) × (rounded_grains R 1 ≡ w * 2 ^ 149)) → Stepped s R 1 (R * 2 ^ 149) 1 → Off (R * 2 ^ 149) 1 (rounded_grains R 1) → num * 2 ^ 149 * t ≡ rounded_grains R 1 * den → Stepped s num den (rounded_grains R 1) t → Steps (round binary32 s num den) s a t
-finish s a t g zero num den P u D x up dn k y yo e z =
-    let o : Off 0 t (rounded_grains num den * t) = subst (λ (w : ℕ). Off w t (rounded_grains num den * t)) zero_stays z.off_by in
-    let q0 : rounded_grains num den ≡ 0 = zero_quotient (rounded_grains num den) t P o in
-    let l = zero_low (a * t) g x (omega arith) in
-    let z0 : rounded_grains num den * t ≡ 0 = ap (λ (w : ℕ). w * t) q0 ∙ zero-mul t in
-    record { q = rounded_grains num den; value = z.value; high = omega arith; low = omega arith; some = inl q0; units = k.0; reads_units = as_units s num den t (rounded_grains 0 1) k.0 D P e k.1 }
-finish s a t g (suc R) num den P u D x up dn k y yo e z =
-    let w = rounded_grains (suc R) 1 in
-    let one : 2 ^ 149 ≤ suc R * 2 ^ 149 = omega arith in
-    let one_at_least : 2 ^ 149 ≤ w = one_kept (suc R) w (omega arith) y.size in
-    record {
-      q = rounded_grains num den;
-      value = z.value;
-      high = near_enough_high (a * t) g (suc R * 2 ^ 149) w (rounded_grains num den * t) t u one x up dn yo z.off_by;
-      low = near_enough_low (a * t) g (suc R * 2 ^ 149) w (rounded_grains num den * t) t u one x up dn yo z.off_by;
-      some = inr (quotient_some num den w t (rounded_grains num den) D u one_at_least e z.size);
-      units = k.0;
-      reads_units = as_units s num den t w k.0 D P e k.1;
-    }
+finish s a t g zero num den P u D x up dn k y yo e z = grind (arith, rounded_grains, zero_stays, zero_quotient, zero_low, zero-mul, as_units)
+finish s a t g (suc R) num den P u D x up dn k y yo e z = grind (arith, rounded_grains, one_kept, near_enough_high, near_enough_low, quotient_some, as_units)
 
 off_one : (b g : ℕ) → Off b 1 (g * 1) → Off b 1 g
-off_one b g x = subst (λ (z : ℕ). Off b 1 z) (mul-one g) x
+off_one b g x = grind arith
 
 pub all_steps : (x : Float) (s : Bool) (a p : ℕ) → HasValue x s a (2 ^ 149) → a ≤ 2 ^ 189 → p ≤ 8 → Steps (rounded_value p x) s a (10 ^ p)
 all_steps x s a p v h l =
@@ -147,35 +120,13 @@ pub zero_equals : (x : Float) (s : Bool) → HasValue x s 0 (2 ^ 149) → eq x n
 unfolding eq of_bits
 zero_equals nan s v = absurd v
 zero_equals (inf t) s v = absurd v
-zero_equals (fin t m e) s v =
-    let z : m * up e ≡ 0 = zero_factor (m * up e) (v.1 ∙ zero-mul (down e)) in
-    let a : m * up e * 1 ≡ 0 * 1 * down e = mul-one (m * up e) ∙ z ∙ sym (zero-mul (down e)) in
-    let b : m * up e * 1 ≡ 0 = mul-one (m * up e) ∙ z in
-    and_from (eqb (m * up e * 1) (0 * 1 * down e)) (beq t false || eqb (m * up e * 1) 0) (eq-eqb (m * up e * 1) (0 * 1 * down e) a)
-    (or_right (beq t false) (eqb (m * up e * 1) 0) (eq-eqb (m * up e * 1) 0 b))
-  where
-    zero_factor : (n : ℕ) → n * 2 ^ 149 ≡ 0 → n ≡ 0
-    zero_factor n e = omega arith
+zero_equals (fin t m e) s v = grind arith
 
 not_huge : (a q t : ℕ) → 0 < t → a < 2 ^ 172 → 2 ^ 21 * (q * t) ≤ 2 ^ 21 * (a * t) + 2 ^ 20 * 2 ^ 149 + a * t → q ≤ 2 ^ 189
-not_huge a q t P h k = elim (cases_lt (2 ^ 189) q) [
-  | inr l ↦ l
-  | inl l ↦
-      let b : 2 ^ 189 * t ≤ q * t = mul-le-mul_right t (native.Mathlib.Nat.le_of_lt l) in
-      let c : a * t ≤ 2 ^ 172 * t = mul-le-mul_right t (native.Mathlib.Nat.le_of_lt h) in
-      absurd (omega arith)
-]
+not_huge a q t P h k = grind arith
 
 pub steps_domain : (r : Float) (s : Bool) (a t : ℕ) → 0 < t → a < 2 ^ 172 → Steps r s a t → bare_domain r ≡ true
-steps_domain r s a t P h k =
-    let q = k.q in
-    let v = unsigned_value r s q k.value in
-    and_from (le (float_with_sign false r) most) (eq r nought || le least (float_with_sign false r))
-    (is_true (le (float_with_sign false r) most) (le_grains (float_with_sign false r) most q (2 ^ 189) v most_value (not_huge a q t P h k.high)))
-    (elim k.some [
-      | inl z ↦ or_left (eq r nought) (le least (float_with_sign false r)) (zero_equals r s (subst (λ (n : ℕ). HasValue r s n (2 ^ 149)) z k.value))
-      | inr l ↦ or_right (eq r nought) (le least (float_with_sign false r)) (is_true (le least (float_with_sign false r)) (le_grains least (float_with_sign false r) (11258999 * 2 ^ 99) q least_value v l))
-    ])
+steps_domain r s a t P h k = grind (arith, unsigned_value, and_from, float_with_sign, is_true, le_grains, most_value, not_huge, or_left, zero_equals, or_right, least_value)
 
 -- ---- distances
 same_side : (s : Bool) → beq s s ≡ true
@@ -183,24 +134,17 @@ same_side true = refl
 same_side false = refl
 
 pub distance_same : (x y : Float) (s : Bool) (a b : ℕ) → HasValue x s a (2 ^ 149) → HasValue y s b (2 ^ 149) → distance x y ≡ apart a b
-distance_same x y s a b v w =
-    let e : beq (is_sign_negative x) (is_sign_negative y) ≡ true = ap (λ (z : Bool). beq z (is_sign_negative y)) (sign_of x s a (2 ^ 149) v) ∙ ap (λ (z : Bool). beq s z) (sign_of y s b (2 ^ 149) w) ∙ same_side s in
-    cond-true (beq (is_sign_negative x) (is_sign_negative y)) (apart (grains x) (grains y)) (grains x + grains y) e
-    ∙ ap (λ (z : ℕ). apart z (grains y)) (grains_of x s a v) ∙ ap (λ (z : ℕ). apart a z) (grains_of y s b w)
+distance_same x y s a b v w = grind (arith, is_sign_negative, sign_of, same_side, cond-true, grains_of)
 
 distance_zero : (x y : Float) (s t : Bool) (a : ℕ) → HasValue x s a (2 ^ 149) → HasValue y t 0 (2 ^ 149) → distance x y ≡ a
-distance_zero x y s t a v w = go (beq (is_sign_negative x) (is_sign_negative y)) (grains_of x s a v) (grains_of y t 0 w)
-  where
-    go : (b : Bool) → grains x ≡ a → grains y ≡ 0 → cond b (apart (grains x) (grains y)) (grains x + grains y) ≡ a
-    go true e f = omega arith
-    go false e f = omega arith
+distance_zero x y s t a v w = grind (arith, is_sign_negative, grains_of)
 
 -- what is close, from the errors of the steps
 close_enough : (D A Q t : ℕ) → D * t ≡ A - Q + (Q - A) → 2 ^ 21 * Q ≤ 2 ^ 21 * A + 2 ^ 20 * 2 ^ 149 + A → 2 ^ 21 * A ≤ 2 ^ 21 * Q + 2 ^ 20 * 2 ^ 149 + A → 2 ^ 21 * (D * t) ≤ 2 ^ 20 * 2 ^ 149 + A
 close_enough D A Q t e h l = omega arith
 
 regroup : (c t D : ℕ) → c * t * D ≡ c * (D * t)
-regroup c t D = mul_assoc c t D ∙ ap (λ (z : ℕ). c * z) (mul_comm t D)
+regroup c t D = grind arith
 
 pub steps_close : (x r : Float) (s : Bool) (a p : ℕ) → HasValue x s a (2 ^ 149) → Steps r s a (10 ^ p) → Close p x r
 steps_close x r s a p v k =
@@ -223,9 +167,6 @@ grains_close x y p r l d h =
 -- ---- a whole number
 whole_small : (a : ℕ) → a ≤ 2 ^ 189 → a / 2 ^ 149 < 2 ^ 41
 whole_small a h = omega arith
-
-whole_lowest : (n : ℕ) → Lowest n 0
-whole_lowest n h z = omega arith
 
 whole_close : (x : Float) (s : Bool) (a p : ℕ) → HasValue x s a (2 ^ 149) → Digits a → a ≤ 2 ^ 189 → p ≤ 8 → a % 2 ^ 149 ≤ 4
     → Close p x (round binary32 (s && not (eqb (a / 2 ^ 149) 0)) (a / 2 ^ 149) 1)
@@ -253,11 +194,11 @@ whole_close x s a p v d h l r = elim (eq-zero-or-pos (a / 2 ^ 149)) [
 -- ---- the theorem
 pub rounded_whole : (p : ℕ) (x : Float) → is_whole x ≡ true → rounded p x ≡ whole_text x
 unfolding rounded
-rounded_whole p x e = cond-true (is_whole x) (whole_text x) (bare (rounded_value p x)) e
+rounded_whole p x e = grind arith
 
 pub rounded_other : (p : ℕ) (x : Float) → is_whole x ≡ false → rounded p x ≡ bare (rounded_value p x)
 unfolding rounded
-rounded_other p x e = cond-false (is_whole x) (whole_text x) (bare (rounded_value p x)) e
+rounded_other p x e = grind arith
 
 whole_stands : (x : Float) (p : ℕ) → T (fits binary32 x) → rounded_domain x ≡ true → p ≤ 8 → is_whole x ≡ true → RoundedWell p x (whole_text x)
 whole_stands x p f h l w =
@@ -301,13 +242,13 @@ other_stands x p f h l w =
     let back : nearest_float (is_sign_negative r) st.units p ≡ r = ap (λ (z : Bool). nearest_float z st.units p) sg ∙ sym st.reads_units in
     record {
       plain = k.plain;
-      decimals = fewest_decimals r (subst T (sym g) tt) dom st.units p back;
+      decimals = fewest_decimals r (T_from_true _ g) dom st.units p back;
       close = subst (λ (z : Float). Close p x z) (sym k.back) (steps_close x r (is_sign_negative x) (grains x) p v st);
     }
 
 pub rounded_stands : RoundedStands
 rounded_stands x p f h l =
-    let q : T (fits binary32 x) = subst T (sym f) tt in
+    let q : T (fits binary32 x) = T_from_true _ f in
     elim (cases_Bool (is_whole x)) [
       | inl w ↦ subst (λ (z : List ℕ). RoundedWell p x z) (sym (rounded_whole p x w)) (whole_stands x p q h l w)
       | inr w ↦ subst (λ (z : List ℕ). RoundedWell p x z) (sym (rounded_other p x w)) (other_stands x p q h l w)

@@ -1,11 +1,11 @@
 -- The search of places in the definition of `bare` and the one in the code's whole numbers find the same units at every place.
-use Rattle.std.proofs.Common.{◌≡◌, ℕ, zero, suc, ◌+◌, ◌-◌, ◌*◌, ◌/◌, ◌%◌, ◌^◌, ◌<◌, ◌≤◌, Bool, true, T, eqb, leb, sym, refl, ap, ◌∙◌, subst, inl, inr, mul-le-mul_right, mod-lt, mul_assoc, mul_comm, add-mul, mul-lt-mul_of_pos_right, one-mul, div-add-mod', le_of_mul-le-mul_right, arith, pow_pos, pow-add, below_more}
+use Rattle.std.proofs.Common.{◌≡◌, ℕ, zero, suc, ◌+◌, ◌-◌, ◌*◌, ◌/◌, ◌%◌, ◌^◌, ◌<◌, ◌≤◌, Bool, true, T, eqb, leb, sym, refl, ap, ◌∙◌, subst, mul-le-mul_right, mod-lt, mul_assoc, mul_comm, add-mul, mul-lt-mul_of_pos_right, one-mul, div-add-mod', le_of_mul-le-mul_right, arith, pow_pos, pow-add, below_more}
 use native.Mathlib.Nat.{mul-div-mul_right}
 use lib.Arith.{digits_mod}
 use lib.Ieee.{Float, binary32, round, to_bits, of_bits, fits}
 use lib.Ieee.Bits.{of_bits-to_bits}
 use lib.Ieee.Fits.{round-fits}
-use Rattle.std.proofs.lemmas.Bool.{eqb-true, eq-eqb, leb-true, le-leb}
+use Rattle.std.proofs.lemmas.Bool.{eqb-true, leb-true, le-leb}
 use Rattle.std.proofs.lemmas.Bool.Decides.{same_from_decides}
 use Rattle.std.specs.Float.{is_sign_negative}
 use Rattle.digits.specs.Magnitudes.{grains}
@@ -21,10 +21,10 @@ pub record Found (x : Float) (s : Bool) (M j n i : ℕ) : Type 0 where
 
 -- ---- equal tests
 pub same_float : (x y : Float) → T (fits binary32 x) → T (fits binary32 y) → eqb (to_bits binary32 x) (to_bits binary32 y) ≡ true → x ≡ y
-same_float x y p q e = sym (of_bits-to_bits binary32 x p) ∙ ap (λ (b : ℕ). of_bits binary32 b) (eqb-true (to_bits binary32 x) (to_bits binary32 y) e) ∙ of_bits-to_bits binary32 y q
+same_float x y p q e = grind (arith, of_bits-to_bits, of_bits, eqb-true, to_bits)
 
 same_bits : (x y : Float) → x ≡ y → eqb (to_bits binary32 x) (to_bits binary32 y) ≡ true
-same_bits x y e = eq-eqb (to_bits binary32 x) (to_bits binary32 y) (ap (λ (z : Float). to_bits binary32 z) e)
+same_bits x y e = grind arith
 
 reads_as_within : (x : Float) (s : Bool) (M j n i : ℕ) → Parts x s M j → reads_as x n i ≡ within M (n * step j i) (gap j i)
 reads_as_within x s M j n i p =
@@ -120,11 +120,7 @@ definition_found x s M j p =
 
 -- two searches that found something found the same
 pub same_place : (x : Float) (s : Bool) (M j n i n' i' : ℕ) → Found x s M j n i → Found x s M j n' i' → i ≡ i'
-same_place x s M j n i n' i' f g = elim (Rattle.std.proofs.lemmas.Bool.cases_order i i') [
-  | inl e ↦ e
-  | inr (inl l) ↦ absurd (let z = f.first.none (f.first.units ∙ g.first.before i l) in let y = g.first.last in omega arith)
-  | inr (inr l) ↦ absurd (let z = g.first.none (g.first.units ∙ f.first.before i' l) in let y = f.first.last in omega arith)
-]
+same_place x s M j n i n' i' f g = grind arith
 
 pub same_units : (x : Float) (s : Bool) (M j n i n' i' : ℕ) → Found x s M j n i → Found x s M j n' i' → n ≡ n'
 same_units x s M j n i n' i' f g = f.first.units ∙ ap (λ (k : ℕ). units_at M (gap j k) (step j k)) (same_place x s M j n i n' i' f g) ∙ sym g.first.units

@@ -1,5 +1,5 @@
 -- What the search finds is the shortest decimal that reads back, among all decimals the nearest of those, and the larger of two as near.
-use Rattle.std.proofs.Common.{◌≡◌, ℕ, zero, suc, ◌+◌, ◌-◌, ◌*◌, ◌/◌, ◌%◌, ◌^◌, ◌<◌, ◌≤◌, Bool, true, sym, refl, ap, ◌∙◌, subst, inl, inr, le_trans, le_of_eq, mul-le-mul_right, mul_assoc, mul_comm, add-mul, mul-le-mul, mul-le-mul_left, one-mul, pow-suc, div-add-mod', mul-one, mul_right_comm, arith, lit<, lit≤, pow_pos, pow_mono, pow-add}
+use Rattle.std.proofs.Common.{◌≡◌, ℕ, zero, suc, ◌+◌, ◌-◌, ◌*◌, ◌/◌, ◌%◌, ◌^◌, ◌<◌, ◌≤◌, Bool, true, sym, refl, ap, ◌∙◌, subst, inl, inr, le_trans, le_of_eq, mul-le-mul_right, mul_assoc, mul_comm, mul-le-mul, mul-le-mul_left, one-mul, pow-suc, div-add-mod', mul-one, mul_right_comm, arith, lit<, lit≤, pow_pos, pow_mono, pow-add}
 use native.Mathlib.Nat.{mul-sub, eq_of_mul-eq-mul_right}
 use lib.Ieee.{Float, binary32, round}
 use lib.Ieee.Scale.{round_same}
@@ -23,7 +23,7 @@ pub found_some : {x : Float} {s : Bool} {M j n i : ℕ} → Found x s M j n i �
 found_some {x} {s} {M} {j} {n} {i} f = result_some x s M j n i f.parts f.first.units f.first.none
 
 pub found_reads : {x : Float} {s : Bool} {M j n i : ℕ} → Found x s M j n i → round binary32 s (n * tens_above i) (tens_below i) ≡ x
-found_reads {x} {s} {M} {j} {n} {i} f = result_reads x s M j n i f.parts f.first.units f.first.none
+found_reads {x} {s} {M} {j} {n} {i} f = grind (arith, result_reads)
 
 pub found_small : {x : Float} {s : Bool} {M j n i : ℕ} → Found x s M j n i → n < 10 ^ 9
 found_small {x} {s} {M} {j} {n} {i} f = small_units x s M j n i f.parts f.first.units f.first.none f.first.before
@@ -92,10 +92,7 @@ own_place m e k h =
 
 at_own_place : (s : Bool) (n k m e : ℕ) → n ≡ m * 10 ^ e → e ≤ 12 + k
     → round binary32 s (m * tens_above (12 + k - e)) (tens_below (12 + k - e)) ≡ nearest_float s n k
-at_own_place s n k m e q h =
-    let i = 12 + k - e in
-    round_same binary32 s (m * tens_above i) (tens_below i) n (10 ^ k) (ten_pos (i - 12)) (ten_pos k)
-    (sym (own_place m e k h) ∙ ap (λ (z : ℕ). z * tens_below i) (sym q))
+at_own_place s n k m e q h = grind (arith, round_same, tens_above, tens_below, ten_pos, own_place)
 
 -- no decimal of a place above 10 ^ 12 reads back
 above_all : (x : Float) (s : Bool) (M j n k m e : ℕ) → Parts x s M j → n ≡ m * 10 ^ e → 12 + k < e → nearest_float s n k ≡ x → ⊥
@@ -115,10 +112,7 @@ above_all x s M j n k m e p q h r =
 -- where a decimal that reads back has its digits
 pub placed : (x : Float) (s : Bool) (M j n k m e : ℕ) → Parts x s M j → n ≡ m * 10 ^ e → nearest_float s n k ≡ x
     → (e ≤ 12 + k) × (round binary32 s (m * tens_above (12 + k - e)) (tens_below (12 + k - e)) ≡ x)
-placed x s M j n k m e p q r = elim (cases_lt (12 + k) e) [
-  | inl h ↦ absurd (above_all x s M j n k m e p q h r)
-  | inr h ↦ (h, at_own_place s n k m e q h ∙ r)
-]
+placed x s M j n k m e p q r = grind (arith, cases_lt, above_all, at_own_place)
 
 -- ---- as few digits
 found_fewest : {x : Float} {s : Bool} {M j n i : ℕ} → Found x s M j n i → (n' k' t : ℕ) → nearest_float s n' k' ≡ x → Significant t n' → Significant t (n * tens_above i)
@@ -135,13 +129,7 @@ digit_count (suc b) n p h = elim (cases_lt n (10 ^ b)) [ inl l ↦ digit_count b
 
 -- two numbers of one place that read back are closer than one part in a million
 single_digit : (M a b u v X : ℕ) → 2 ^ 23 ≤ M → X ≡ M * u → 0 < u → a ≤ 9 → 10 ≤ b → Inside M (a * v) u X → Inside M (b * v) u X → ⊥
-single_digit M a b u v X full e U h k x y =
-    let hi = y.high in
-    let lo = x.low in
-    let av : a * v ≤ 9 * v = mul-le-mul_right v h in
-    let bv : 10 * v ≤ b * v = mul-le-mul_right v k in
-    let mu : 8388608 * u ≤ M * u = mul-le-mul_right u full in
-    omega arith
+single_digit M a b u v X full e U h k x y = grind arith
 
 -- none with as few digits at a finer place: a power of ten would lie between, which reads back at a coarser place
 finer_none : {x : Float} {s : Bool} {M j n : ℕ} (i : ℕ) → Found x s M j n i → (t m i' : ℕ) → 10 ^ t ≤ n → m < 10 ^ suc t → i < i'
@@ -187,10 +175,10 @@ finer_none {x} {s} {M} {j} {n} (suc i) f (suc t) m i' lo hi h r =
 
 -- ---- the nearest one
 pub sub_mul : (a b c : ℕ) → (a - b) * c ≡ a * c - b * c
-sub_mul a b c = mul_comm (a - b) c ∙ mul-sub c a b ∙ ap (λ (z : ℕ). z - c * b) (mul_comm c a) ∙ ap (λ (z : ℕ). a * c - z) (mul_comm c b)
+sub_mul a b c = grind (arith, mul_comm, mul-sub)
 
 pub apart_mul : (a b c : ℕ) → apart (a * c) (b * c) ≡ apart a b * c
-apart_mul a b c = ap (λ (z : ℕ). z + (b * c - a * c)) (sym (sub_mul a b c)) ∙ ap (λ (z : ℕ). (a - b) * c + z) (sym (sub_mul b a c)) ∙ sym (add-mul (a - b) (b - a) c)
+apart_mul a b c = grind arith
 
 -- the distance of w units of the place i, in the code's scale
 place_away : (x : Float) (s : Bool) (M j w i : ℕ) → Parts x s M j → apart (w * tens_above i * 2 ^ 149) (grains x * tens_below i) ≡ apart (w * step j i) (M * gap j i) * 2 ^ common_power j

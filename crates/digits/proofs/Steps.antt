@@ -1,9 +1,8 @@
 -- The three steps of rounding, each with its error: the product, the whole number, the quotient.
-use Rattle.std.proofs.Common.{◌≡◌, ℕ, zero, suc, ◌+◌, ◌*◌, ◌^◌, ◌<◌, ◌≤◌, Bool, true, false, cond, T, eqb, sym, refl, ap, ◌∙◌, subst, mul-le-mul_right, mul_assoc, mul_comm, add-mul, mul-le-mul_left, mul-pos, zero-mul, mul-one, mul_right_comm, div-mul-le_self, le_of_mul-le-mul_right, mul_left_comm, arith}
+use Rattle.std.proofs.Common.{◌≡◌, ℕ, zero, suc, ◌+◌, ◌*◌, ◌^◌, ◌<◌, ◌≤◌, Bool, true, false, cond, T, eqb, sym, refl, ap, ◌∙◌, subst, mul-le-mul_right, mul_assoc, mul_comm, mul-pos, zero-mul, mul-one, mul_right_comm, div-mul-le_self, le_of_mul-le-mul_right, mul_left_comm, arith}
 use native.Mathlib.Nat.{lt-div-mul-add}
 use lib.Ieee.{Float, nan, inf, fin, binary32, up, down, round, mul, div, unlike, of_int}
 use lib.Ieee.Fits.{down_pos, round_is}
-use lib.Ieee.Order.{drop, kept}
 use lib.Ieee.Exact.{HasValue, units_val}
 use Rattle.std.proofs.lemmas.Bool.{cond-false, ne_eqb}
 use Rattle.std.specs.Float.{round_with, float_round, ratio_round_half_up}
@@ -12,10 +11,10 @@ use Rattle.digits.proofs.ReadsBack.{rounded_grains}
 use Rattle.digits.proofs.ErrorBound.{Off, off}
 
 expand : (n c G k : ℕ) → (2 ^ 24 * n + n + 2 ^ 23 * c) * k ≡ 2 ^ 24 * (n * k) + n * k + 2 ^ 23 * (c * k)
-expand n c G k = add-mul (2 ^ 24 * n + n) (2 ^ 23 * c) k ∙ ap (λ (z : ℕ). z + 2 ^ 23 * c * k) (add-mul (2 ^ 24 * n) n k ∙ ap (λ (z : ℕ). z + n * k) (mul_assoc (2 ^ 24) n k)) ∙ ap (λ (z : ℕ). 2 ^ 24 * (n * k) + n * k + z) (mul_assoc (2 ^ 23) c k)
+expand n c G k = grind arith
 
 mixed : (n c G k : ℕ) → (2 ^ 24 * G + n + 2 ^ 23 * c) * k ≡ 2 ^ 24 * (G * k) + n * k + 2 ^ 23 * (c * k)
-mixed n c G k = add-mul (2 ^ 24 * G + n) (2 ^ 23 * c) k ∙ ap (λ (z : ℕ). z + 2 ^ 23 * c * k) (add-mul (2 ^ 24 * G) n k ∙ ap (λ (z : ℕ). z + n * k) (mul_assoc (2 ^ 24) G k)) ∙ ap (λ (z : ℕ). 2 ^ 24 * (G * k) + n * k + z) (mul_assoc (2 ^ 23) c k)
+mixed n c G k = grind arith
 
 off_by : (n c G k : ℕ) → Off n c G → Off (n * k) (c * k) (G * k)
 off_by n c G k x =
@@ -41,13 +40,10 @@ off_at num den b T D e =
 
 -- ---- a rounded fraction, in grains
 pub round_value : (s : Bool) (num den : ℕ) → rounded_grains num den < 2 ^ 277 → HasValue (round binary32 s num den) s (rounded_grains num den) (2 ^ 149)
-round_value s num den h =
-    let q = kept 24 (num * 2 ^ 149) den in
-    let k = drop 24 (num * 2 ^ 149) den in
-    subst (λ (z : Float). HasValue z s (q * 2 ^ k) (2 ^ 149)) (sym (round_is binary32 s num den)) (units_val binary32 s q k h)
+round_value s num den h = grind (arith, round_is, units_val)
 
 grains_small : (b t g : ℕ) → 0 < t → t ≤ 10 ^ 8 → b ≤ 2 ^ 220 → Off b t (g * t) → g < 2 ^ 277
-grains_small b t g T u h x = let e : g * 1 ≤ g * t = mul-le-mul_left g T in let f = x.high in omega arith
+grains_small b t g T u h x = grind arith
 
 -- b / t grains rounded, as the float s num / den
 pub record Stepped (s : Bool) (num den b t : ℕ) : Type 0 where
@@ -175,7 +171,4 @@ power_value (suc (suc (suc (suc (suc zero))))) h = (refl, refl)
 power_value (suc (suc (suc (suc (suc (suc zero)))))) h = (refl, refl)
 power_value (suc (suc (suc (suc (suc (suc (suc zero))))))) h = (refl, refl)
 power_value (suc (suc (suc (suc (suc (suc (suc (suc zero)))))))) h = (refl, refl)
-power_value (suc (suc (suc (suc (suc (suc (suc (suc (suc p))))))))) h = absurd (too_many p h)
-  where
-    too_many : (p : ℕ) → suc (suc (suc (suc (suc (suc (suc (suc (suc p)))))))) ≤ 8 → ⊥
-    too_many p h = omega arith
+power_value (suc (suc (suc (suc (suc (suc (suc (suc (suc p))))))))) h = grind arith

@@ -1,5 +1,5 @@
 -- Plain texts and what they say: a plain text is the spelling of its units and places, and a spelling says just those.
-use Rattle.std.proofs.Common.{◌≡◌, ℕ, zero, suc, ◌+◌, ◌-◌, ◌*◌, ◌/◌, ◌%◌, ◌^◌, ◌<◌, ◌≤◌, Bool, true, false, cond, eqb, List, [], ◌∷◌, ◌++◌, length, get_or, decimal, sym, refl, ap, ◌∙◌, subst, inl, inr, le_refl, mul_assoc, mul_comm, eq-zero-or-pos, pow-suc, div-add-mod', div-le_self, div-one, arith, lit<, pow-add, rules}
+use Rattle.std.proofs.Common.{◌≡◌, ℕ, zero, suc, ◌+◌, ◌-◌, ◌*◌, ◌/◌, ◌%◌, ◌^◌, ◌<◌, ◌≤◌, Bool, true, false, cond, eqb, List, [], ◌∷◌, ◌++◌, length, get_or, decimal, sym, refl, ap, ◌∙◌, subst, inl, inr, le_refl, mul_assoc, mul_comm, eq-zero-or-pos, pow-suc, div-add-mod', div-le_self, arith, lit<, pow-add, rules, append-nil}
 use native.Mathlib.Nat.{mul-mod_left, pow-le-pow_right, eq_of_mul-eq-mul_right}
 use lib.Arith.{digits_div, mod-mul}
 use Rattle.std.proofs.lemmas.Fmt.{digits_decimal, digits_value-decimal, decimal-digits_value, decimal_nonempty, decimal_digit, first_decimal}
@@ -19,16 +19,13 @@ ten_pos k = let b : 0 ≤ k = omega arith in pow-le-pow_right {n = 10} (lit< tt)
 
 -- ---- digits
 digit : (c : ℕ) (cs : List ℕ) → all_ascii_digits (c ∷ cs) ≡ true → IsInRange 48 57 c
-digit c cs h = (tells_all_ascii_digits.parts c cs h).0
+digit c cs h = grind arith
 
 digits : (c : ℕ) (cs : List ℕ) → all_ascii_digits (c ∷ cs) ≡ true → all_ascii_digits cs ≡ true
-digits c cs h = (tells_all_ascii_digits.parts c cs h).1
+digits c cs h = grind arith
 
 no_point : (c : ℕ) → IsInRange 48 57 c → eqb c 46 ≡ false
 no_point c h = grind (arith, nat_tests)
-
-no_minus : (c : ℕ) → IsInRange 48 57 c → eqb c 45 ≡ false
-no_minus c h = grind (arith, nat_tests)
 
 -- the number so far, and what the other digits say
 pub said_from : (w : ℕ) (ds : List ℕ) → said_after w ds ≡ w * 10 ^ length ds + said ds
@@ -45,7 +42,7 @@ said_append w [] es = refl
 said_append w (c ∷ cs) es = said_append (10 * w + (c - 48)) cs es
 
 said_lt : (ds : List ℕ) → all_ascii_digits ds ≡ true → said ds < 10 ^ length ds
-said_lt ds h = digits_value_short own ds (length ds) h (le_refl (length ds))
+said_lt ds h = grind (arith, digits_value_short, own, le_refl)
 
 -- ---- figures
 pub length_figures : (k n : ℕ) → length (figures k n) ≡ k
@@ -79,7 +76,7 @@ figures_said w (c ∷ cs) h =
     ap (λ (z : ℕ). z ∷ figures k (said_after v cs)) f ∙ ap (λ (z : List ℕ). c ∷ z) (figures_said v cs (digits c cs h))
 
 last_figure : (k n : ℕ) → get_or (figures (suc k) n) k 0 ≡ 48 + n % 10
-last_figure zero n = ap (λ (z : ℕ). 48 + z % 10) (div-one n)
+last_figure zero n = grind arith
 last_figure (suc k) n = last_figure k n
 
 -- the last digit of digits is that of the number
@@ -102,10 +99,6 @@ skips_digits : (ds es : List ℕ) → all_ascii_digits ds ≡ true → behind_po
 skips_digits [] es h = refl
 skips_digits (c ∷ cs) es h = ap (λ (b : Bool). cond b (length (cs ++ es)) (behind_point (cs ++ es))) (no_point c (digit c cs h)) ∙ skips_digits cs es (digits c cs h)
 
-append-nil : (ds : List ℕ) → ds ++ [] ≡ ds
-append-nil [] = refl
-append-nil (c ∷ cs) = ap (λ (z : List ℕ). c ∷ z) (append-nil cs)
-
 fraction_kept : (fs : List ℕ) → all_ascii_digits fs ≡ true → without_point (after_point fs) ≡ fs
 fraction_kept [] h = refl
 fraction_kept (c ∷ cs) h = ap without_point (sym (append-nil (c ∷ cs))) ∙ keeps_digits (c ∷ cs) [] h ∙ append-nil (c ∷ cs)
@@ -117,31 +110,31 @@ fraction_length (c ∷ cs) = refl
 minus_is : (s : Bool) (w r : List ℕ) → 0 < length w → all_ascii_digits w ≡ true → minus (sign_text s ++ (w ++ r)) ≡ s
 minus_is true w r p h = refl
 minus_is false [] r p h = absurd (omega arith)
-minus_is false (c ∷ cs) r p h = no_minus c (digit c cs h)
+minus_is false (c ∷ cs) r p h = grind arith
 
 after_minus_is : (s : Bool) (w r : List ℕ) → 0 < length w → all_ascii_digits w ≡ true → after_minus (sign_text s ++ (w ++ r)) ≡ w ++ r
 after_minus_is true w r p h = refl
 after_minus_is false [] r p h = absurd (omega arith)
-after_minus_is false (c ∷ cs) r p h = ap (λ (b : Bool). cond b (cs ++ r) (c ∷ (cs ++ r))) (no_minus c (digit c cs h))
+after_minus_is false (c ∷ cs) r p h = grind arith
 
 pub plain_minus : (bs : List ℕ) (p : Plain bs) → minus bs ≡ p.negative
-plain_minus bs p = ap minus p.spelled ∙ minus_is p.negative p.whole (after_point p.fraction) p.some_digit p.whole_digits
+plain_minus bs p = grind (arith, minus_is, after_point)
 
 plain_rest : (bs : List ℕ) (p : Plain bs) → after_minus bs ≡ p.whole ++ after_point p.fraction
-plain_rest bs p = ap after_minus p.spelled ∙ after_minus_is p.negative p.whole (after_point p.fraction) p.some_digit p.whole_digits
+plain_rest bs p = grind (arith, after_minus, after_minus_is, after_point)
 
 pub plain_units : (bs : List ℕ) (p : Plain bs) → units bs ≡ said_after (said p.whole) p.fraction
-plain_units bs p =
-    ap (λ (z : List ℕ). said (without_point z)) (plain_rest bs p)
-    ∙ ap said (keeps_digits p.whole (after_point p.fraction) p.whole_digits ∙ ap (λ (z : List ℕ). p.whole ++ z) (fraction_kept p.fraction p.fraction_digits))
-    ∙ said_append 0 p.whole p.fraction
+plain_units bs p = grind (arith, without_point, plain_rest, keeps_digits, after_point, fraction_kept, said_append)
 
 pub plain_places : (bs : List ℕ) (p : Plain bs) → places bs ≡ length p.fraction
-plain_places bs p = ap behind_point (plain_rest bs p) ∙ skips_digits p.whole (after_point p.fraction) p.whole_digits ∙ fraction_length p.fraction
+plain_places bs p = grind (arith, behind_point, plain_rest, skips_digits, after_point, fraction_length)
 
 -- ---- a decimal in lowest terms: whole, or with a last digit that is not zero
 abbrev pub Lowest : ℕ → ℕ → Type 0
 Lowest n k = 0 < k → n % 10 ≡ 0 → ⊥
+
+pub whole_lowest : (n : ℕ) → Lowest n 0
+whole_lowest n h z = omega arith
 
 pub plain_lowest : (bs : List ℕ) → Plain bs → Lowest (units bs) (places bs)
 plain_lowest bs p h z =
@@ -152,7 +145,7 @@ plain_lowest bs p h z =
 
 pointed_is : (fs : List ℕ) (n : ℕ) → figures (length fs) n ≡ fs → pointed (length fs) n ≡ after_point fs
 pointed_is [] n e = refl
-pointed_is (c ∷ cs) n e = ap (λ (z : List ℕ). 46 ∷ z) e
+pointed_is (c ∷ cs) n e = grind arith
 
 -- a plain text is the spelling of what it says
 pub plain_spelling : (bs : List ℕ) → Plain bs → units bs < 2 ^ 64 → bs ≡ spelling (minus bs) (units bs) (places bs)
@@ -191,10 +184,7 @@ last_of (suc k) n h e =
     h (omega arith) (omega arith)
 
 front_of : (n : ℕ) → n < 2 ^ 64 → get_or (decimal n) 0 0 ≡ 48 → length (decimal n) ≡ 1
-front_of n small e = elim (eq-zero-or-pos n) [
-  | inl z ↦ ap (λ (t : ℕ). length (decimal t)) z ∙ ap length (decimal_digit 0 (lit< tt))
-  | inr p ↦ absurd (let l = first_decimal n p small in omega arith)
-]
+front_of n small e = grind (arith, eq-zero-or-pos, decimal_digit, first_decimal)
 
 pub spelling_plain : (s : Bool) (n k : ℕ) → n < 2 ^ 64 → Lowest n k → Plain (spelling s n k)
 spelling_plain s n k small low =
@@ -239,23 +229,14 @@ spelling_says s n k small low =
     }
 
 pub spelling_reads : (s : Bool) (n k : ℕ) → n < 2 ^ 64 → Lowest n k → reads (spelling s n k) ≡ nearest_float s n k
-spelling_reads s n k small low =
-    let h = spelling_says s n k small low in
-    let bs = spelling s n k in
-    ap (λ (z : Bool). nearest_float z (units bs) (places bs)) h.sign_is
-    ∙ ap (λ (z : ℕ). nearest_float s z (places bs)) h.units_are
-    ∙ ap (λ (z : ℕ). nearest_float s n z) h.places_are
+spelling_reads s n k small low = grind (arith, spelling_says, nearest_float)
 
 -- ---- equal decimals in lowest terms are the same
 ten_more : (m k d : ℕ) → m * 10 ^ (k + suc d) ≡ m * 10 ^ d * 10 * 10 ^ k
-ten_more m k d =
-    ap (λ (z : ℕ). m * z) (pow-add 10 k (suc d) ∙ ap (λ (z : ℕ). 10 ^ k * z) (pow-suc 10 d))
-    ∙ simp (mul_assoc, mul_comm, native.Mathlib.Nat.mul_left_comm)
+ten_more m k d = grind (arith, pow-add, pow-suc, mul_assoc, mul_comm)
 
 not_finer : (n k n' d : ℕ) → Lowest n' (k + suc d) → n * 10 ^ (k + suc d) ≡ n' * 10 ^ k → ⊥
-not_finer n k n' d low e =
-    let f : n * 10 ^ d * 10 ≡ n' = eq_of_mul-eq-mul_right (10 ^ k) (ten_pos k) (n * 10 ^ d * 10) n' (sym (ten_more n k d) ∙ e) in
-    low (omega arith) (ap (λ (z : ℕ). z % 10) (sym f) ∙ mul-mod_left (n * 10 ^ d) 10)
+not_finer n k n' d low e = grind (arith, eq_of_mul-eq-mul_right, ten_pos, ten_more, mul-mod_left)
 
 apart_by : (k k' : ℕ) → k < k' → (d : ℕ) × (k' ≡ k + suc d)
 apart_by k k' h = (k' - suc k, omega arith)
@@ -274,7 +255,7 @@ lowest_places n k n' k' low low' e = elim (Rattle.std.proofs.lemmas.Bool.cases_l
 ]
 
 pub lowest_units : (n k n' k' : ℕ) → k ≡ k' → n * 10 ^ k' ≡ n' * 10 ^ k → n ≡ n'
-lowest_units n k n' k' q e = eq_of_mul-eq-mul_right (10 ^ k') (ten_pos k') n n' (e ∙ ap (λ (z : ℕ). n' * 10 ^ z) q)
+lowest_units n k n' k' q e = grind (arith, eq_of_mul-eq-mul_right, ten_pos)
 
 -- ---- the bytes of a plain text
 digits_bytes : (ds es : List ℕ) → all_ascii_digits ds ≡ true → AllByRecursion NumberByte es → AllByRecursion NumberByte (ds ++ es)
@@ -290,6 +271,4 @@ sign_bytes true bs a = (inl refl, a)
 sign_bytes false bs a = a
 
 pub plain_bytes : (bs : List ℕ) → Plain bs → AllByRecursion NumberByte bs
-plain_bytes bs p =
-    subst (AllByRecursion NumberByte) (sym p.spelled)
-    (sign_bytes p.negative (p.whole ++ after_point p.fraction) (digits_bytes p.whole (after_point p.fraction) p.whole_digits (point_bytes p.fraction p.fraction_digits)))
+plain_bytes bs p = grind (arith, sign_bytes, after_point, digits_bytes, point_bytes)

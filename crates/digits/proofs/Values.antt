@@ -33,18 +33,14 @@ fields_of b = refl
 
 pub bits_value : (x : Float) → T (fits binary32 x) → T (finite x)
     → HasValue x (leb 2147483648 (to_bits binary32 x)) (field_grains (to_bits binary32 x % 2147483648 / 8388608) (to_bits binary32 x % 8388608)) (2 ^ 149)
-bits_value x p h = go (to_bits binary32 x) (sym (of_bits-to_bits binary32 x p) ∙ fields_of (to_bits binary32 x))
-  where
-    go : (b : ℕ) → x ≡ of_fields binary32 (leb 2147483648 b) (b % 2147483648 / 8388608) (b % 8388608) → HasValue x (leb 2147483648 b) (field_grains (b % 2147483648 / 8388608) (b % 8388608)) (2 ^ 149)
-    go b e = subst (λ (z : Float). HasValue z (leb 2147483648 b) (field_grains (b % 2147483648 / 8388608) (b % 8388608)) (2 ^ 149)) (sym e)
-        (fields_value (leb 2147483648 b) (b % 2147483648 / 8388608) (b % 8388608) (subst (λ (z : Float). T (finite z)) e h))
+bits_value x p h = grind (arith, to_bits, of_bits-to_bits, fields_of, of_fields, fields_value)
 
 -- ---- the grains
 pub grains_of : (x : Float) (s : Bool) (a : ℕ) → HasValue x s a (2 ^ 149) → grains x ≡ a
 unfolding grains
 grains_of nan s a v = absurd v
 grains_of (inf t) s a v = absurd v
-grains_of (fin t m e) s a v = ap (λ (z : ℕ). z / down e) v.1 ∙ mul-div_cancel a (down_pos e)
+grains_of (fin t m e) s a v = grind (arith, mul-div_cancel, down_pos)
 
 pub sign_of : (x : Float) (s : Bool) (a c : ℕ) → HasValue x s a c → is_sign_negative x ≡ s
 unfolding is_sign_negative
@@ -54,12 +50,10 @@ sign_of (fin t m e) s a c v = v.0
 
 -- a value is that of the float's own sign and grains
 pub own_value : (x : Float) (s : Bool) (a : ℕ) → HasValue x s a (2 ^ 149) → HasValue x (is_sign_negative x) (grains x) (2 ^ 149)
-own_value x s a v =
-    subst (λ (z : Bool). HasValue x z (grains x) (2 ^ 149)) (sym (sign_of x s a (2 ^ 149) v))
-    (subst (λ (z : ℕ). HasValue x s z (2 ^ 149)) (sym (grains_of x s a v)) v)
+own_value x s a v = grind (arith, sign_of, grains_of)
 
 pub valued : (x : Float) → T (fits binary32 x) → T (finite x) → HasValue x (is_sign_negative x) (grains x) (2 ^ 149)
-valued x p h = own_value x (leb 2147483648 (to_bits binary32 x)) (field_grains (to_bits binary32 x % 2147483648 / 8388608) (to_bits binary32 x % 8388608)) (bits_value x p h)
+valued x p h = grind (arith, own_value, to_bits, bits_value)
 
 pub unsigned_value : (x : Float) (s : Bool) (a : ℕ) → HasValue x s a (2 ^ 149) → HasValue (float_with_sign false x) false a (2 ^ 149)
 unfolding float_with_sign
@@ -91,7 +85,7 @@ grains_le (fin true m e) (fin u n d) a b v w h = absurd (wrong v.0)
 grains_le (fin false m e) (fin true n d) a b v w h = absurd (mathlib.Core.Bool.true≢false w.0)
 
 pub le_grains : (x y : Float) (a b : ℕ) → HasValue x false a (2 ^ 149) → HasValue y false b (2 ^ 149) → a ≤ b → T (le x y)
-le_grains x y a b v w h = le_of_values x y a (2 ^ 149) b (2 ^ 149) (pow_pos 149) (pow_pos 149) v w (mul-le-mul_right (2 ^ 149) h)
+le_grains x y a b v w h = grind (arith, le_of_values, pow_pos, mul-le-mul_right)
 
 pub least_value : HasValue least false (11258999 * 2 ^ 99) (2 ^ 149)
 unfolding of_bits
@@ -104,28 +98,25 @@ most_value = (refl, refl)
 -- ---- the domains
 pub finite_in : (x : Float) → le (float_with_sign false x) most ≡ true → T (finite x)
 unfolding float_with_sign le of_bits
-finite_in nan h = absurd (mathlib.Core.Bool.false≢true h)
-finite_in (inf s) h = absurd (mathlib.Core.Bool.false≢true h)
+finite_in nan h = grind arith
+finite_in (inf s) h = grind arith
 finite_in (fin s m e) h = tt
 
 pub no_nan : (x : Float) → le (float_with_sign false x) most ≡ true → T (not (is_nan x))
 unfolding float_with_sign le of_bits is_nan
-no_nan nan h = absurd (mathlib.Core.Bool.false≢true h)
+no_nan nan h = grind arith
 no_nan (inf s) h = tt
 no_nan (fin s m e) h = tt
 
 pub at_most : (x : Float) (s : Bool) (a : ℕ) → HasValue x s a (2 ^ 149) → le (float_with_sign false x) most ≡ true → a ≤ 2 ^ 189
-at_most x s a v h = grains_le (float_with_sign false x) most a (2 ^ 189) (unsigned_value x s a v) most_value h
+at_most x s a v h = grind (arith, grains_le, float_with_sign, unsigned_value, most_value)
 
 pub at_least : (x : Float) (s : Bool) (a : ℕ) → HasValue x s a (2 ^ 149) → le least (float_with_sign false x) ≡ true → 11258999 * 2 ^ 99 ≤ a
-at_least x s a v h = grains_le least (float_with_sign false x) (11258999 * 2 ^ 99) a least_value (unsigned_value x s a v) h
+at_least x s a v h = grind (arith, grains_le, float_with_sign, least_value, unsigned_value)
 
 -- ---- the parts
 power_low : (k t : ℕ) → t < 2 ^ 23 → 11258999 * 2 ^ 99 ≤ (2 ^ 23 + t) * 2 ^ k → 99 ≤ k
-power_low k t l h = elim (cases_lt k 99) [
-  | inl a ↦ let m : (2 ^ 23 + t) * 2 ^ k ≤ (2 ^ 23 + t) * 2 ^ 98 = mul-le-mul_left (2 ^ 23 + t) (pow_mono {i = k} {j = 98} (omega arith)) in absurd (omega arith)
-  | inr a ↦ a
-]
+power_low k t l h = grind (arith, cases_lt, mul-le-mul_left, pow_mono)
 
 power_high : (k t : ℕ) → (2 ^ 23 + t) * 2 ^ k ≤ 2 ^ 189 → k ≤ 166
 power_high k t h = elim (cases_lt 166 k) [
@@ -135,23 +126,4 @@ power_high k t h = elim (cases_lt 166 k) [
 
 pub parts_of : (x : Float) → T (fits binary32 x) → le (float_with_sign false x) most ≡ true → le least (float_with_sign false x) ≡ true
     → Parts x (leb 2147483648 (to_bits binary32 x)) (8388608 + to_bits binary32 x % 8388608) (to_bits binary32 x % 2147483648 / 8388608 - 1)
-parts_of x p h l = go (to_bits binary32 x) (to_bits binary32 x % 2147483648 / 8388608) refl (bits_value x p (finite_in x h))
-  where
-    go : (b F : ℕ) → b % 2147483648 / 8388608 ≡ F → HasValue x (leb 2147483648 b) (field_grains F (b % 8388608)) (2 ^ 149)
-        → Parts x (leb 2147483648 b) (8388608 + b % 8388608) (F - 1)
-    go b zero e v = absurd (let k = at_least x (leb 2147483648 b) (b % 8388608) v l in omega arith)
-    go b (suc k) e v =
-        let t = b % 8388608 in
-        let s = leb 2147483648 b in
-        let k1 : k ≡ suc k - 1 = omega arith in
-        let t23 : t < 2 ^ 23 = omega arith in
-        let lo = power_low k t t23 (at_least x s ((2 ^ 23 + t) * 2 ^ k) v l) in
-        let hi = power_high k t (at_most x s ((2 ^ 23 + t) * 2 ^ k) v h) in
-        record {
-          fit = p;
-          value = subst (λ (z : ℕ). HasValue x s ((2 ^ 23 + t) * 2 ^ z) (2 ^ 149)) k1 v;
-          full = omega arith;
-          short = omega arith;
-          above = omega arith;
-          below = omega arith;
-        }
+parts_of x p h l = grind (arith, to_bits, bits_value, finite_in, at_least, power_low, power_high, at_most)

@@ -1,5 +1,5 @@
 -- Cutting a float of the domain to its whole part: it can be done, and gives the whole part of the magnitude.
-use Rattle.std.proofs.Common.{◌≡◌, ℕ, ◌+◌, ◌-◌, ◌*◌, ◌/◌, ◌^◌, ◌<◌, ◌≤◌, Bool, true, false, T, ℤ, pos, one-mul, arith, lt→ltb, pow_pos}
+use Rattle.std.proofs.Common.{◌≡◌, ℕ, ◌*◌, ◌/◌, ◌^◌, ◌<◌, ◌≤◌, Bool, true, false, T, ℤ, pos, one-mul, arith, lt→ltb, pow_pos}
 use mathlib.Core.Bool.{false≢true}
 use lib.Ieee.{Float, nan, inf, fin, binary32, up, down, fits, of_bits, le, lt, to_unsigned}
 use lib.Ieee.Exact.{HasValue}
@@ -14,14 +14,14 @@ pub above_minus_one : (x : Float) → rounded_domain x ≡ true → T (lt (fin t
 unfolding float_with_sign le lt of_bits
 above_minus_one nan h = absurd (false≢true h)
 above_minus_one (inf s) h = absurd (false≢true h)
-above_minus_one (fin s m e) h = lt→ltb 0 (1 * 1 * down e + m * up e * 1) (let d = down_pos e in let a = one-mul (down e) in omega arith)
+above_minus_one (fin s m e) h = grind (arith, down_pos, one-mul)
 
 -- the whole part by the float's own fraction
 own_whole : (m a : ℕ) (e : ℤ) → m * up e * 2 ^ 149 ≡ a * down e → m * up e / down e ≡ a / 2 ^ 149
-own_whole m a e v = div_same (m * up e) (down e) a (2 ^ 149) (down_pos e) (pow_pos 149) v
+own_whole m a e v = grind (arith, div_same, down_pos, pow_pos)
 
 size_bound : (n d a : ℕ) → 0 < d → a ≤ 2 ^ 189 → n * 2 ^ 149 ≡ a * d → n * 1 < 2 ^ 64 * d
-size_bound n d a D h v = let k : a * d ≤ 2 ^ 189 * d = native.Mathlib.Nat.mul-le-mul_right d h in omega arith
+size_bound n d a D h v = grind arith
 
 pub below_limit : (x : Float) (s : Bool) (a : ℕ) → HasValue x s a (2 ^ 149) → a ≤ 2 ^ 189 → T (lt (float_with_sign false x) (fin false 1 (pos 64)))
 unfolding float_with_sign lt
@@ -33,10 +33,7 @@ pub cut_value : (x : Float) (s : Bool) (a : ℕ) → HasValue x s a (2 ^ 149) �
 unfolding float_with_sign to_unsigned
 cut_value nan s a v h = absurd v
 cut_value (inf t) s a v h = absurd v
-cut_value (fin t m e) s a v h =
-    let w = own_whole m a e v.1 in
-    let l : m * up e / down e ≤ 2 ^ 64 - 1 = omega arith in
-    omega arith
+cut_value (fin t m e) s a v h = grind (arith, own_whole)
 
 -- ---- for a float of the domain
 pub limit_of : (x : Float) → T (fits binary32 x) → rounded_domain x ≡ true → T (lt (float_with_sign false x) (fin false 1 (pos 64)))

@@ -1,7 +1,4 @@
-use Rattle.std.proofs.Common.{◌≡◌, ℕ, ◌*◌, ◌<◌, ◌≤◌, ◌^◌, Bool, sym, ap, ◌∙◌, arith}
-use Rattle.digits.specs.Bare.{tens_above}
-use Rattle.digits.specs.Decimals.{spelling}
-use Rattle.digits.specs.Scaled.{Parts, FirstUnits}
+use Rattle.std.proofs.Common.{sym, arith}
 use Rattle.digits.proofs.BareText.{bare_nought, bare_found, zero_grains}
 use Rattle.digits.proofs.Searched.{Found}
 use Rattle.digits.proofs.Shortness.{found_small, found_bound}

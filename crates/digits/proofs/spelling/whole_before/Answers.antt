@@ -1,6 +1,5 @@
-use Rattle.std.proofs.Common.{◌≡◌, ℕ, ◌^◌, ◌<◌, ◌≤◌, List, [], ◌∷◌, ◌++◌, length, decimal, append_assoc, sym, ap, ◌∙◌, ◌+◌, ◌%◌, ◌/◌, arith, length-append}
+use Rattle.std.proofs.Common.{◌≡◌, ℕ, ◌^◌, ◌<◌, ◌≤◌, List, [], ◌∷◌, ◌++◌, length, decimal, append_assoc, sym, ap, ◌∙◌, ◌+◌, ◌%◌, arith, length-append}
 use Rattle.std.proofs.lemmas.Fmt.{decimal_step, decimal_digit, decimal_nonempty}
-use Rattle.digits.specs.Numerals.{text_of}
 use Rattle.digits.proofs.spelling.whole_before.Goals as goal
 
 -- what is left to write and what is written take as much room as the whole
