@@ -1,4 +1,1 @@
-pub mod Failures
-pub mod Numbers
-pub mod Quoting
 pub mod Record

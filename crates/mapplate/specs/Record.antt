@@ -6,7 +6,7 @@ use Rattle.drawing.specs.Faults.{report}
 use Rattle.drawing.specs.Names.{attribute_name}
 use Rattle.plates.specs.declared.elements.Element.{Element}
 use Rattle.plates.specs.Elements.{element_name}
-use Rattle.mapplate.specs.Quoting.{quoted_form}
+use Rattle.scripts.specs.Quoting.{quoted_form}
 
 -- the quoted id behind a space (32); none where there is no id
 abbrev pub shown_id : List ℕ → List ℕ

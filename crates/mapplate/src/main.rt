@@ -5,14 +5,11 @@
 #![tactic(auto)]
 
 mod failures;
-mod numbers;
-mod quoting;
 mod record;
 mod runs;
 mod script;
 mod settings;
 mod statements;
-mod words;
 
 use crate::failures::Failure;
 use crate::runs::record_of;

@@ -4,11 +4,10 @@ ghost use Rattle.std.specs.Prelude.{◌≡◌, ◌<◌, ◌++◌, length, OnOk};
 ghost use Rattle.mapplate.specs.Record.{opened, shown_attribute, shown_node, refusal};
 
 use crate::failures::Failure;
-use crate::numbers::hex_digit;
-use crate::quoting::push_quoted;
 use drawing::faults::Fault;
 use drawing::names::AId;
 use plates::elements::Element;
+use scripts::quoting::push_quoted;
 use std::io::Write;
 use stores::Store;
 
@@ -21,6 +20,7 @@ const GROUP: usize = 9;
 pub const FILL: u8 = 0xA5;
 
 /// `open NAME` with the quoted id, if any.
+// Kept: names and words are bytes, which `write!` does not take.
 pub fn put_open(out: &mut Vec<u8>, element: Element, id: &[u8]) -> Result<(), Failure>
     ensures { OnOk result (out.new.items ≡ out.old.items ++ opened element id.now) }
 {
@@ -36,14 +36,12 @@ pub fn put_open(out: &mut Vec<u8>, element: Element, id: &[u8]) -> Result<(), Fa
 fn put_attribute(out: &mut Vec<u8>, attribute: Option<AId>) -> Result<(), Failure>
     ensures { OnOk result (out.new.items ≡ out.old.items ++ shown_attribute attribute) }
 {
-    match attribute {
-        None => Ok(()),
-        Some(name) => {
-            out.extend_from_slice(b", attribute ")?;
-            out.extend_from_slice(name.name())?;
-            Ok(())
-        }
-    }
+    let Some(name) = attribute else {
+        return Ok(());
+    };
+    out.extend_from_slice(b", attribute ")?;
+    out.extend_from_slice(name.name())?;
+    Ok(())
 }
 
 fn put_node(out: &mut Vec<u8>, node: Option<usize>) -> Result<(), Failure>
@@ -69,6 +67,7 @@ pub fn put_fault(out: &mut Vec<u8>, fault: Fault) -> Result<(), Failure>
 }
 
 /// The bytes held, as they are.
+// Kept: a store shows its bytes one by one, since those of a roll do not lie side by side.
 pub fn put_text<S: Store>(out: &mut Vec<u8>, store: &S) -> Result<(), Failure>
     ensures { OnOk result (out.new.items ≡ out.old.items ++ S.Store.held store.now) }
 {
@@ -83,8 +82,7 @@ pub fn put_text<S: Store>(out: &mut Vec<u8>, store: &S) -> Result<(), Failure>
 
 fn put_hex(out: &mut Vec<u8>, bytes: &[u8]) -> Result<(), Failure> {
     for byte in bytes {
-        out.push(hex_digit(*byte / 16))?;
-        out.push(hex_digit(*byte % 16))?;
+        write!(out, "{byte:02x}")?;
     }
     Ok(())
 }
@@ -105,13 +103,10 @@ fn put_record(out: &mut Vec<u8>, index: usize, bytes: &[u8]) -> Result<(), Failu
 
 /// How many records come before those that are empty to the end.
 fn used_records(records: &[u8]) -> usize {
-    let mut used = 0;
-    for (index, record) in records.chunks(RECORD).enumerate() {
-        if record[0] != 0 {
-            used = index + 1;
-        }
-    }
-    used
+    records
+        .chunks(RECORD)
+        .rposition(|record| !record.starts_with(&[0]))
+        .map_or(0, |last| last + 1)
 }
 
 /// The records of a roll, the empty ones at the end in one line.
@@ -119,10 +114,8 @@ pub fn put_records(out: &mut Vec<u8>, records: &[u8]) -> Result<(), Failure> {
     let used = used_records(records);
     let all = records.len() / RECORD;
     out.extend_from_slice(b"records:\n")?;
-    for (index, record) in records.chunks(RECORD).enumerate() {
-        if index < used {
-            put_record(out, index, record)?;
-        }
+    for (index, record) in records.chunks(RECORD).enumerate().take(used) {
+        put_record(out, index, record)?;
     }
     if used < all {
         put_empty(out, used, all - 1)?;
@@ -142,13 +135,9 @@ fn put_empty(out: &mut Vec<u8>, first: usize, last: usize) -> Result<(), Failure
 
 /// How many bytes lie beyond the store's reach, and whether they are as they were.
 pub fn put_beyond(out: &mut Vec<u8>, image: &[u8], reach: usize) -> Result<(), Failure> {
-    let count = image.len().saturating_sub(reach);
-    let mut same = 0usize;
-    for byte in image.iter().skip(reach) {
-        if *byte == FILL {
-            same = same.saturating_add(1);
-        }
-    }
+    let beyond = image.get(reach..).unwrap_or_default();
+    let count = beyond.len();
+    let same = beyond.iter().filter(|byte| **byte == FILL).count();
     if same == count {
         writeln!(out, "beyond: {count} bytes, unchanged")?;
     } else {

@@ -3,7 +3,7 @@
 use crate::failures::Failure;
 use crate::record::{FILL, put_beyond, put_fault, put_open, put_records, put_text};
 use crate::script::{Line, Script};
-use crate::statements::{Statement, StoreKind};
+use crate::statements::{Statement, StoreChoice, StoreKind};
 use drawing::faults::Fault;
 use drawing::options::WriteOptions;
 use plates::elements::Element;
@@ -22,9 +22,12 @@ fn put_answer<S: Store>(
 ) -> Result<(), Failure> {
     match answer {
         Ok(()) => {
-            let held = plate.held();
-            let owed = plate.closing_marks();
-            writeln!(out, ": accepted, held {held}, closing {owed}")?;
+            writeln!(
+                out,
+                ": accepted, held {}, closing {}",
+                plate.held(),
+                plate.closing_marks()
+            )?;
             Ok(())
         }
         Err(fault) => put_fault(out, fault),
@@ -50,8 +53,7 @@ fn run_close<S: Store>(out: &mut Vec<u8>, plate: &mut Plate<S>) -> Result<(), Fa
 }
 
 fn put_number(out: &mut Vec<u8>, line: &Line) -> Result<(), Failure> {
-    let number = line.number;
-    write!(out, "line {number}: ")?;
+    write!(out, "line {}: ", line.number)?;
     Ok(())
 }
 
@@ -66,37 +68,15 @@ fn put_counts<S: Store>(out: &mut Vec<u8>, plate: &Plate<S>) -> Result<(), Failu
     Ok(())
 }
 
-/// Makes the calls of a script on a new plate over a store, and gives the store back with its text in the record.
-fn run<S: Store + Drop>(out: &mut Vec<u8>, store: S, lines: &[Line]) -> Result<S, Failure> {
-    let mut plate = Plate::new(store);
-    let mut options = WriteOptions::new();
-    for line in lines {
-        match &line.statement {
-            Statement::Store(_) => {}
-            Statement::Options(settings) => options = settings.write_options(),
-            Statement::Open(element, id) => {
-                put_number(out, line)?;
-                run_open(out, &mut plate, &options, *element, id.as_slice())?;
-            }
-            Statement::Close => {
-                put_number(out, line)?;
-                run_close(out, &mut plate)?;
-            }
-        }
-    }
-    put_counts(out, &plate)?;
-    Ok(plate.into_store())
-}
-
 /// The first line: the store with its size, and the length of its buffer.
-fn put_store<S: Store>(
-    out: &mut Vec<u8>,
-    kind: &str,
-    store: &S,
-    length: usize,
-) -> Result<(), Failure> {
-    let size = store.size();
-    writeln!(out, "store {kind}, size {size}, buffer {length}")?;
+fn put_store<S: Store>(out: &mut Vec<u8>, choice: StoreChoice, store: &S) -> Result<(), Failure> {
+    writeln!(
+        out,
+        "store {}, size {}, buffer {}",
+        choice.kind,
+        store.size(),
+        choice.length
+    )?;
     Ok(())
 }
 
@@ -107,35 +87,55 @@ fn put_text_part<S: Store>(out: &mut Vec<u8>, store: &S) -> Result<(), Failure> 
     Ok(())
 }
 
-fn run_page(out: &mut Vec<u8>, buffer: &mut [u8], lines: &[Line]) -> Result<(), Failure> {
-    let length = buffer.len();
-    let page = Page::new(buffer);
-    put_store(out, "page", &page, length)?;
-    let page = run(out, page, lines)?;
-    put_text_part(out, &page)?;
-    let size = page.size();
-    put_beyond(out, page.image(), size)
+/// Makes the calls of a script on a new plate.
+fn run_lines<S: Store>(
+    out: &mut Vec<u8>,
+    plate: &mut Plate<S>,
+    lines: &[Line],
+) -> Result<(), Failure> {
+    let mut options = WriteOptions::new();
+    for line in lines {
+        match &line.statement {
+            Statement::Store(_) => {}
+            Statement::Options(settings) => options = settings.write_options(),
+            Statement::Open(element, id) => {
+                put_number(out, line)?;
+                run_open(out, plate, &options, *element, id.as_slice())?;
+            }
+            Statement::Close => {
+                put_number(out, line)?;
+                run_close(out, plate)?;
+            }
+        }
+    }
+    Ok(())
 }
 
-fn run_roll(out: &mut Vec<u8>, buffer: &mut [u8], lines: &[Line]) -> Result<(), Failure> {
-    let length = buffer.len();
-    let roll = Roll::new(buffer);
-    put_store(out, "roll", &roll, length)?;
-    let roll = run(out, roll, lines)?;
-    put_text_part(out, &roll)?;
-    let records = roll.records();
-    put_records(out, records)?;
-    put_beyond(out, roll.image(), records.len())
+/// Runs a script on a plate over a store, and gives the store back with its text in the record.
+fn run<S: Store + Drop>(out: &mut Vec<u8>, store: S, script: &Script) -> Result<S, Failure> {
+    put_store(out, script.store, &store)?;
+    let mut plate = Plate::new(store);
+    run_lines(out, &mut plate, script.lines.as_slice())?;
+    put_counts(out, &plate)?;
+    let store = plate.into_store();
+    put_text_part(out, &store)?;
+    Ok(store)
 }
 
 /// Runs a script, and gives its record.
 pub fn record_of(heap: Global, script: &Script) -> Result<Vec<u8>, Failure> {
     let mut out = Vec::new(heap);
     let mut buffer = vec![in heap; FILL; script.store.length]?;
-    let lines = script.lines.as_slice();
     match script.store.kind {
-        StoreKind::Page => run_page(&mut out, buffer.as_mut_slice(), lines)?,
-        StoreKind::Roll => run_roll(&mut out, buffer.as_mut_slice(), lines)?,
+        StoreKind::Page => {
+            let page = run(&mut out, Page::new(buffer.as_mut_slice()), script)?;
+            put_beyond(&mut out, page.image(), page.size())?;
+        }
+        StoreKind::Roll => {
+            let roll = run(&mut out, Roll::new(buffer.as_mut_slice()), script)?;
+            put_records(&mut out, roll.records())?;
+            put_beyond(&mut out, roll.image(), roll.records().len())?;
+        }
     }
     Ok(out)
 }

@@ -1,128 +1,81 @@
 //! A whole script: its store, and its other statements with the numbers of their lines.
 
-use crate::failures::{Expected, Failure, at_line_end, at_script_end, at_word};
-use crate::statements::{Statement, StoreChoice, Words, read_statement};
-use crate::words::{WordFault, words_of};
+use crate::statements::{Statement, StoreChoice, read_statement};
+use scripts::cursors::Words;
+use scripts::failures::{Expected, Failure, at_script_end};
+use scripts::words::words_of;
 use std::alloc::Global;
 
+/// A statement, and the number of its line.
 #[derive(Drop)]
 pub struct Line {
     pub number: usize,
     pub statement: Statement,
 }
 
+/// A script as it was read.
 #[derive(Drop)]
 pub struct Script {
     pub store: StoreChoice,
     pub lines: Vec<Line>,
 }
 
-/// What has been read of a script.
-#[derive(Drop)]
-struct Draft {
-    store: Option<StoreChoice>,
-    lines: Vec<Line>,
-}
-
-/// The lines of a text without their ends: a line feed, or a carriage return and a line feed.
-fn lines_of<'a>(heap: Global, text: &'a [u8]) -> Result<Vec<&'a [u8]>, Failure> {
-    let mut lines = Vec::new(heap);
-    let mut start = 0;
-    for (place, byte) in text.iter().enumerate() {
-        if *byte == b'\n' {
-            lines.push(without_return(&text[start..place]))?;
-            start = place + 1;
-        }
-    }
-    lines.push(without_return(&text[start..]))?;
-    Ok(lines)
-}
-
-fn without_return(line: &[u8]) -> &[u8] {
-    match line {
-        [.., b'\r'] => &line[0..line.len() - 1],
-        _ => line,
-    }
-}
-
 /// Whether a line says nothing: it is blank, or a comment.
 fn is_silent(line: &[u8]) -> bool {
-    for byte in line {
-        match byte {
-            b' ' | b'\t' => {}
-            b'#' => return true,
-            _ => return false,
-        }
-    }
-    true
+    let said = line.iter().find(|byte| !matches!(byte, b' ' | b'\t'));
+    matches!(said, None | Some(b'#'))
 }
 
-/// The words of a line, or the failure with its number.
-fn words_at(heap: Global, number: usize, line: &[u8]) -> Result<Vec<Vec<u8>>, Failure> {
-    match words_of(heap, line) {
-        Ok(words) => Ok(words),
-        Err(WordFault::Memory) => Err(Failure::Memory),
-        Err(WordFault::At(expected, None)) => Err(at_line_end(number, expected)),
-        Err(WordFault::At(expected, Some(byte))) => Err(at_word(heap, number, expected, &[byte])),
+/// Adds the statement of a line that begins with some word; the store comes first, and once.
+fn add(
+    script: &mut Option<Script>,
+    words: &Words,
+    word: &[u8],
+    statement: Statement,
+) -> Result<(), Failure> {
+    match (script.as_mut(), statement) {
+        (None, Statement::Store(store)) => {
+            *script = Some(Script {
+                store,
+                lines: Vec::new(words.heap),
+            })
+        }
+        (Some(_), Statement::Store(_)) => return Err(words.instead(Expected::OneStore, word)),
+        (None, _) => return Err(words.instead(Expected::FirstStore, word)),
+        (Some(script), statement) => script.lines.push(Line {
+            number: words.line,
+            statement,
+        })?,
     }
+    Ok(())
 }
 
-impl Draft {
-    /// Adds a statement; the store comes first, and once.
-    fn add(
-        &mut self,
-        heap: Global,
-        number: usize,
-        word: &[u8],
-        statement: Statement,
-    ) -> Result<(), Failure> {
-        match (self.store, statement) {
-            (None, Statement::Store(choice)) => self.store = Some(choice),
-            (Some(_), Statement::Store(_)) => return Err(at_word(
-                heap,
-                number,
-                Expected::OneStore,
-                word,
-            )),
-            (None, _) => return Err(at_word(heap, number, Expected::FirstStore, word)),
-            (Some(_), statement) => self.lines.push(Line { number, statement })?,
-        }
-        Ok(())
-    }
-
-    fn read_line(&mut self, heap: Global, number: usize, line: &[u8]) -> Result<(), Failure> {
-        let words = words_at(heap, number, line)?;
-        let statement = read_statement(
-            heap,
-            &mut Words {
-                line: number,
-                words: words.as_slice(),
-                next: 0,
-            },
-        )?;
-        match words.first() {
-            Some(word) => self.add(heap, number, word.as_slice(), statement),
-            None => Ok(()),
-        }
+/// Reads the line of some number.
+fn read_line(
+    heap: Global,
+    number: usize,
+    line: &[u8],
+    script: &mut Option<Script>,
+) -> Result<(), Failure> {
+    let said = words_of(heap, number, line)?;
+    let mut words = Words::new(heap, number, said.as_slice());
+    let statement = read_statement(&mut words)?;
+    match said.first() {
+        Some(word) => add(script, &words, word.as_slice(), statement),
+        None => Ok(()),
     }
 }
 
-/// Reads a script whole.
+/// Reads a script whole. A line ends at a line feed, or at a carriage return and a line feed.
 pub fn read_script(heap: Global, text: &[u8]) -> Result<Script, Failure> {
-    let mut draft = Draft {
-        store: None,
-        lines: Vec::new(heap),
-    };
+    let mut script = None;
     let mut number = 0usize;
-    for line in lines_of(heap, text)? {
+    for line in text.split(|byte| *byte == b'\n') {
+        let line = line.strip_suffix(b"\r").unwrap_or(line);
         number = number.saturating_add(1);
         if !is_silent(line) {
-            draft.read_line(heap, number, line)?;
+            read_line(heap, number, line, &mut script)?;
         }
     }
-    let Draft { store, lines } = draft;
-    match store {
-        Some(store) => Ok(Script { store, lines }),
-        None => Err(at_script_end(number, Expected::FirstStore)),
-    }
+    script.ok_or_else(|| at_script_end(number, Expected::FirstStore))
 }

@@ -1,23 +1,35 @@
 //! The statements of a script: one function reads each.
 
-ghost use Rattle.std.specs.Prelude.{◌≡◌, IfSome};
+ghost use Rattle.std.specs.Prelude.{◌≡◌, ◌≤◌, length, IfSome, OnOk};
 ghost use Rattle.plates.specs.Elements.{element_name};
+ghost use Rattle.scripts.specs.Cursors.{left, FewerLeft};
 
-use crate::failures::{Expected, Failure, at_line_end, at_word};
-use crate::numbers::number;
 use crate::settings::Settings;
 use plates::elements::Element;
-use std::alloc::Global;
+use scripts::cursors::{Words, take_number};
+use scripts::failures::{Expected, Failure};
+use std::fmt;
 
 /// The longest buffer that a script may ask for.
-const LONGEST: u32 = 16_777_216;
+const LONGEST: u64 = 16_777_216;
 
+/// Where the bytes of a plate go.
 #[derive(Clone, Copy)]
 pub enum StoreKind {
     Page,
     Roll,
 }
 
+impl fmt::Display for StoreKind {
+    fn fmt<W: fmt::Write>(&self, f: &mut fmt::Formatter<W>) -> fmt::Result {
+        f.write_str(match self {
+            StoreKind::Page => "page",
+            StoreKind::Roll => "roll",
+        })
+    }
+}
+
+/// The store that a script asks for.
 #[derive(Clone, Copy)]
 pub struct StoreChoice {
     pub kind: StoreKind,
@@ -25,6 +37,7 @@ pub struct StoreChoice {
     pub length: usize,
 }
 
+/// What a line says.
 #[derive(Drop)]
 pub enum Statement {
     Store(StoreChoice),
@@ -33,60 +46,14 @@ pub enum Statement {
     Close,
 }
 
-/// The words of a line that are still to be read.
-#[derive(Drop)]
-pub struct Words<'a> {
-    pub line: usize,
-    pub words: &'a [Vec<u8>],
-    pub next: usize,
+fn take_size(words: &mut Words) -> Result<usize, Failure> {
+    Ok(take_number(words, LONGEST, Expected::Size)? as usize)
 }
 
-impl<'a> Words<'a> {
-    fn take(&mut self) -> Option<&'a [u8]> {
-        if self.next >= self.words.len() {
-            return None;
-        }
-        let word = self.words[self.next].as_slice();
-        self.next += 1;
-        Some(word)
-    }
-
-    /// The failure at a word that says something else than was expected.
-    fn instead(&self, heap: Global, expected: Expected, word: &[u8]) -> Failure {
-        at_word(heap, self.line, expected, word)
-    }
-
-    /// The failure where a word was expected and none came.
-    fn ended(&self, expected: Expected) -> Failure {
-        at_line_end(self.line, expected)
-    }
-
-    fn end(&mut self, heap: Global) -> Result<(), Failure> {
-        match self.take() {
-            None => Ok(()),
-            Some(word) => Err(self.instead(heap, Expected::LineEnd, word)),
-        }
-    }
-}
-
-fn take_size(heap: Global, words: &mut Words) -> Result<usize, Failure> {
-    let Some(word) = words.take() else {
-        return Err(words.ended(Expected::Size));
-    };
-    match number(word, LONGEST) {
-        Some(value) => Ok(value as usize),
-        None => Err(words.instead(heap, Expected::Size, word)),
-    }
-}
-
-fn take_precision(heap: Global, words: &mut Words) -> Result<u8, Failure> {
-    let Some(word) = words.take() else {
-        return Err(words.ended(Expected::Precision));
-    };
-    match number(word, 255) {
-        Some(value) => Ok(value as u8),
-        None => Err(words.instead(heap, Expected::Precision, word)),
-    }
+fn take_precision(words: &mut Words) -> Result<u8, Failure>
+    ensures { OnOk result (FewerLeft words.old words.new) }
+{
+    Ok(take_number(words, 255, Expected::Precision)? as u8)
 }
 
 fn store_kind(word: &[u8]) -> Option<StoreKind> {
@@ -98,51 +65,39 @@ fn store_kind(word: &[u8]) -> Option<StoreKind> {
 }
 
 /// `store page SIZE` or `store roll SIZE`
-fn store_statement(heap: Global, words: &mut Words) -> Result<Statement, Failure> {
-    let Some(word) = words.take() else {
-        return Err(words.ended(Expected::StoreKind));
-    };
-    let Some(kind) = store_kind(word) else {
-        return Err(words.instead(heap, Expected::StoreKind, word));
-    };
-    let length = take_size(heap, words)?;
-    words.end(heap)?;
+fn store_statement(words: &mut Words) -> Result<Statement, Failure> {
+    let kind = words.said(Expected::StoreKind, store_kind)?;
+    let length = take_size(words)?;
+    words.end()?;
     Ok(Statement::Store(StoreChoice { kind, length }))
 }
 
-fn take_prefix(heap: Global, words: &mut Words) -> Result<Vec<u8>, Failure> {
-    match words.take() {
-        Some(word) => Ok(Vec::from_slice(heap, word)?),
-        None => Err(words.ended(Expected::Prefix)),
-    }
+fn take_prefix(words: &mut Words) -> Result<Vec<u8>, Failure>
+    ensures { OnOk result (FewerLeft words.old words.new) }
+{
+    let word = words.word(Expected::Prefix)?;
+    Ok(Vec::from_slice(words.heap, word)?)
 }
 
-fn option(
-    heap: Global,
-    words: &mut Words,
-    name: &[u8],
-    settings: &mut Settings,
-) -> Result<(), Failure> {
+fn option(words: &mut Words, name: &[u8], settings: &mut Settings) -> Result<(), Failure>
+    ensures { OnOk result (length (left words.new) ≤ length (left words.old)) }
+{
     match name {
-        b"prefix" => settings.prefix = Some(take_prefix(heap, words)?),
+        b"prefix" => settings.prefix = Some(take_prefix(words)?),
         b"preserve" => settings.preserve_text = true,
-        b"coordinates" => settings.coordinates = take_precision(heap, words)?,
-        b"transforms" => settings.transforms = take_precision(heap, words)?,
+        b"coordinates" => settings.coordinates = take_precision(words)?,
+        b"transforms" => settings.transforms = take_precision(words)?,
         b"single" => settings.single_quote = true,
-        _ => return Err(words.instead(heap, Expected::OptionName, name)),
+        _ => return Err(words.instead(Expected::OptionName, name)),
     }
     Ok(())
 }
 
 /// `options [prefix WORD] [preserve] [coordinates N] [transforms N] [single]`
-fn options_statement(heap: Global, words: &mut Words) -> Result<Statement, Failure> {
-    let mut settings = Settings::new();
-    // each turn takes at least one word
-    for _ in 0..words.words.len() {
-        let Some(name) = words.take() else {
-            break;
-        };
-        option(heap, words, name, &mut settings)?;
+fn options_statement(words: &mut Words) -> Result<Statement, Failure> {
+    let mut settings = Settings::default();
+    while let Some(name) = words.next() {
+        option(words, name, &mut settings)?;
     }
     Ok(Statement::Options(settings))
 }
@@ -161,46 +116,34 @@ const ELEMENTS: [Element; 7] = [
 fn element_named(name: &[u8]) -> Option<Element>
     ensures { IfSome result (λ element. element_name element ≡ name.now) }
 {
-    for element in ELEMENTS {
-        if element.name() == name {
-            return Some(element);
-        }
-    }
-    None
+    ELEMENTS
+        .iter()
+        .copied()
+        .find(|element| element.name() == name)
 }
 
 /// `open NAME [ID]`
-fn open_statement(heap: Global, words: &mut Words) -> Result<Statement, Failure> {
-    let Some(name) = words.take() else {
-        return Err(words.ended(Expected::ElementName));
-    };
-    let Some(element) = element_named(name) else {
-        return Err(words.instead(heap, Expected::ElementName, name));
-    };
-    let id = match words.take() {
-        Some(word) => Vec::from_slice(heap, word)?,
-        None => Vec::new(heap),
-    };
-    words.end(heap)?;
+fn open_statement(words: &mut Words) -> Result<Statement, Failure> {
+    let element = words.said(Expected::ElementName, element_named)?;
+    let id = Vec::from_slice(words.heap, words.next().unwrap_or_default())?;
+    words.end()?;
     Ok(Statement::Open(element, id))
 }
 
 /// `close`
-fn close_statement(heap: Global, words: &mut Words) -> Result<Statement, Failure> {
-    words.end(heap)?;
+fn close_statement(words: &mut Words) -> Result<Statement, Failure> {
+    words.end()?;
     Ok(Statement::Close)
 }
 
 /// The statement of a line.
-pub fn read_statement(heap: Global, words: &mut Words) -> Result<Statement, Failure> {
-    let Some(word) = words.take() else {
-        return Err(words.ended(Expected::Statement));
-    };
+pub fn read_statement(words: &mut Words) -> Result<Statement, Failure> {
+    let word = words.word(Expected::PlateStatement)?;
     match word {
-        b"store" => store_statement(heap, words),
-        b"options" => options_statement(heap, words),
-        b"open" => open_statement(heap, words),
-        b"close" => close_statement(heap, words),
-        _ => Err(words.instead(heap, Expected::Statement, word)),
+        b"store" => store_statement(words),
+        b"options" => options_statement(words),
+        b"open" => open_statement(words),
+        b"close" => close_statement(words),
+        _ => Err(words.instead(Expected::PlateStatement, word)),
     }
 }

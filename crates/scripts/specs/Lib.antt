@@ -1,3 +1,4 @@
+pub mod Cursors
 pub mod Failures
 pub mod Floats
 pub mod Numbers

@@ -11,7 +11,10 @@ use std::fmt::Write;
 /// What a script was expected to say.
 #[derive(Clone, Copy)]
 pub enum Expected {
+    /// Of a script that draws tables too.
     Statement,
+    /// Of a script that only opens and closes elements.
+    PlateStatement,
     FirstStore,
     OneStore,
     StoreKind,
@@ -90,6 +93,7 @@ pub enum Fields {
 }
 
 /// What it said instead. A word is kept in its quoted form.
+// Kept: a `String` would need a proof that the quoted form is text, and a record takes the form as bytes.
 #[derive(Drop)]
 pub enum Found {
     LineEnd,
@@ -97,6 +101,7 @@ pub enum Found {
     Word(Vec<u8>),
 }
 
+/// A line of a script that says something else than was expected.
 #[derive(Drop)]
 pub struct ScriptError {
     pub line: usize,
@@ -104,10 +109,22 @@ pub struct ScriptError {
     pub found: Found,
 }
 
+/// Why a script is not read.
 #[derive(Drop)]
 pub enum Failure {
     Script(ScriptError),
     Memory,
+}
+
+/// The failure of a line that says something else than was expected.
+fn told(line: usize, expected: Expected, found: Found) -> Failure
+    ensures { result ≡ Failure.Script (record { line = line; expected = expected; found = found }) }
+{
+    Failure::Script(ScriptError {
+        line,
+        expected,
+        found,
+    })
 }
 
 /// The failure of a line at a word.
@@ -116,11 +133,7 @@ pub fn at_word(heap: Global, line: usize, expected: Expected, word: &[u8]) -> Fa
 {
     let mut shown = Vec::new(heap);
     match push_quoted(&mut shown, word) {
-        Ok(()) => Failure::Script(ScriptError {
-            line,
-            expected,
-            found: Found::Word(shown),
-        }),
+        Ok(()) => told(line, expected, Found::Word(shown)),
         Err(_) => Failure::Memory,
     }
 }
@@ -129,29 +142,22 @@ pub fn at_word(heap: Global, line: usize, expected: Expected, word: &[u8]) -> Fa
 pub fn at_line_end(line: usize, expected: Expected) -> Failure
     ensures { result ≡ Failure.Script (record { line = line; expected = expected; found = Found.LineEnd }) }
 {
-    Failure::Script(ScriptError {
-        line,
-        expected,
-        found: Found::LineEnd,
-    })
+    told(line, expected, Found::LineEnd)
 }
 
 /// The failure of a script at its end.
 pub fn at_script_end(line: usize, expected: Expected) -> Failure
     ensures { result ≡ Failure.Script (record { line = line; expected = expected; found = Found.ScriptEnd }) }
 {
-    Failure::Script(ScriptError {
-        line,
-        expected,
-        found: Found::ScriptEnd,
-    })
+    told(line, expected, Found::ScriptEnd)
 }
 
-impl Expected {
-    fn words(self) -> &'static str {
-        match self {
+impl fmt::Display for Expected {
+    fn fmt<W: fmt::Write>(&self, f: &mut fmt::Formatter<W>) -> fmt::Result {
+        f.write_str(match self {
             Expected::Statement =>
                 "store, options, open, close, check, repeat or the name of a list",
+            Expected::PlateStatement => "store, options, open or close",
             Expected::FirstStore => "the store before any other statement",
             Expected::OneStore => "one store only",
             Expected::StoreKind => "page or roll",
@@ -183,15 +189,15 @@ impl Expected {
             Expected::TextFlow => "Linear or Path",
             Expected::FontFamily => "Serif, SansSerif, Cursive, Fantasy, Monospace or Named",
             Expected::BaselineShift => "Baseline, Subscript, Superscript or Number",
-            Expected::Case(keywords) => keywords.words(),
-            Expected::Field(fields) => fields.words(),
-        }
+            Expected::Case(keywords) => return write!(f, "{keywords}"),
+            Expected::Field(fields) => return write!(f, "{fields}"),
+        })
     }
 }
 
-impl Keywords {
-    fn words(self) -> &'static str {
-        match self {
+impl fmt::Display for Keywords {
+    fn fmt<W: fmt::Write>(&self, f: &mut fmt::Formatter<W>) -> fmt::Result {
+        f.write_str(match self {
             Keywords::Kind => "Group, Path, Image or Text",
             Keywords::PaintOrder => "FillAndStroke or StrokeAndFill",
             Keywords::FillRule => "NonZero or EvenOdd",
@@ -211,13 +217,13 @@ impl Keywords {
             Keywords::LengthAdjust => "Spacing or SpacingAndGlyphs",
             Keywords::Units => "UserSpaceOnUse or ObjectBoundingBox",
             Keywords::SpreadMethod => "Pad, Reflect or Repeat",
-        }
+        })
     }
 }
 
-impl Fields {
-    fn words(self) -> &'static str {
-        match self {
+impl fmt::Display for Fields {
+    fn fmt<W: fmt::Write>(&self, f: &mut fmt::Formatter<W>) -> fmt::Result {
+        f.write_str(match self {
             Fields::Node => "a field of nodes",
             Fields::Group => "a field of groups",
             Fields::Path => "a field of paths",
@@ -233,25 +239,29 @@ impl Fields {
             Fields::Font => "families, style, stretch, weight or }",
             Fields::Decoration => "underline, overline, line_through or }",
             Fields::Style => "fill, stroke or }",
+        })
+    }
+}
+
+impl fmt::Display for Found {
+    fn fmt<W: fmt::Write>(&self, f: &mut fmt::Formatter<W>) -> fmt::Result {
+        match self {
+            Found::LineEnd => f.write_str("the end of the line"),
+            Found::ScriptEnd => f.write_str("the end of the script"),
+            Found::Word(word) => word
+                .iter()
+                .try_for_each(|byte| f.write_char(char::from(*byte))),
         }
     }
 }
 
 impl fmt::Display for ScriptError {
     fn fmt<W: fmt::Write>(&self, f: &mut fmt::Formatter<W>) -> fmt::Result {
-        let line = self.line;
-        let expected = self.expected.words();
-        write!(f, "line {line}: expected {expected}, found ")?;
-        match &self.found {
-            Found::LineEnd => f.write_str("the end of the line"),
-            Found::ScriptEnd => f.write_str("the end of the script"),
-            Found::Word(word) => {
-                for byte in word.iter() {
-                    f.write_char(*byte as char)?;
-                }
-                Ok(())
-            }
-        }
+        write!(
+            f,
+            "line {}: expected {}, found {}",
+            self.line, self.expected, self.found
+        )
     }
 }
 

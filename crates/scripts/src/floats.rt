@@ -4,7 +4,6 @@ ghost use Rattle.std.specs.Prelude.{◌≡◌, from_bits};
 ghost use Rattle.std.specs.Float.{binary32};
 ghost use Rattle.scripts.specs.Floats.{nan_pattern};
 
-use crate::numbers::hex_byte;
 use std::str::from_utf8;
 
 /// Whether 32 bits are those of a NaN: every bit of the exponent is set, and some bit of the fraction.
@@ -27,26 +26,16 @@ pub fn float_of_bits(bits: u32) -> f32
 
 /// The bits that eight hexadecimal digits say.
 fn bits_said(digits: &[u8]) -> Option<u32> {
-    let [a, b, c, d, e, f, g, h] = digits else {
+    if digits.len() != 8 || !digits.iter().all(|digit| digit.is_ascii_hexdigit()) {
         return None;
-    };
-    let first = hex_byte(*a, *b)?;
-    let second = hex_byte(*c, *d)?;
-    let third = hex_byte(*e, *f)?;
-    let fourth = hex_byte(*g, *h)?;
-    Some(u32::from_be_bytes([first, second, third, fourth]))
+    }
+    u32::from_str_radix(from_utf8(digits).ok()?, 16).ok()
 }
 
 /// The float that a word says: `0x` and eight hexadecimal digits, or a decimal as Rust reads it.
 pub fn float_said(word: &[u8]) -> Option<f32> {
-    if let [b'0', b'x', digits @ ..] = word {
-        return match bits_said(digits) {
-            Some(bits) => Some(float_of_bits(bits)),
-            None => None,
-        };
-    }
-    match from_utf8(word) {
-        Ok(text) => text.parse::<f32>().ok(),
-        Err(_) => None,
+    match word.strip_prefix(b"0x") {
+        Some(digits) => bits_said(digits).map(float_of_bits),
+        None => from_utf8(word).ok()?.parse().ok(),
     }
 }

@@ -1,36 +1,30 @@
 //! Decimal numbers of a script, and hexadecimal digits.
 
-ghost use Rattle.std.specs.Prelude.{◌≡◌, ◌<◌};
-ghost use Rattle.scripts.specs.Numbers.{Said, digit, hex_value, hex_byte, hex_digit};
+ghost use Rattle.std.specs.Prelude.{◌≡◌, ◌<◌, ◌^◌, SomeIff};
+ghost use Rattle.scripts.specs.Numbers.{Numeral, value, Said, hex_value, hex_byte, hex_digit};
+
+use std::str::from_utf8;
+
+/// The number of at most 64 bits that a word says in decimal digits.
+fn parsed(word: &[u8]) -> Option<u64>
+    ensures { SomeIff result (Numeral word.now × (value word.now < 2 ^ 64)) (value word.now) }
+{
+    // `parse` would take a plus in front of the digits
+    if word.starts_with(b"+") {
+        return None;
+    }
+    from_utf8(word).ok()?.parse().ok()
+}
 
 /// The number that a word says in decimal digits, where it is at most `most`.
 pub fn number(word: &[u8], most: u64) -> Option<u64>
     ensures { Said word.now most result }
 {
-    if word.is_empty() {
-        return None;
-    }
-    let mut value: u64 = 0;
-    for byte in word {
-        if !is_digit(*byte) {
-            return None;
-        }
-        let more = value as u128 * 10 + (*byte - b'0') as u128;
-        if more > most as u128 {
-            return None;
-        }
-        value = more as u64;
-    }
-    Some(value)
-}
-
-fn is_digit(byte: u8) -> bool
-    ensures { result ≡ digit byte }
-{
-    b'0' <= byte && byte <= b'9'
+    parsed(word).filter(|value| *value <= most)
 }
 
 /// The value of a hexadecimal digit, in either case.
+// Kept: `to_digit` is of a char and gives a u32, so that it would stand between two casts.
 pub fn hex_value(byte: u8) -> Option<u8>
     ensures { result ≡ hex_value byte }
 {
@@ -46,13 +40,13 @@ pub fn hex_value(byte: u8) -> Option<u8>
 pub fn hex_byte(high: u8, low: u8) -> Option<u8>
     ensures { result ≡ hex_byte high low }
 {
-    match (hex_value(high), hex_value(low)) {
-        (Some(high), Some(low)) => Some(high * 16 + low),
-        _ => None,
-    }
+    let high = hex_value(high)?;
+    let low = hex_value(low)?;
+    Some(high * 16 + low)
 }
 
 /// The hexadecimal digit of a value.
+// Kept: `from_digit` gives an Option of a char, which would have to be unwrapped and cast.
 pub fn hex_digit(value: u8) -> u8
     requires { value < 16 }
     ensures { result ≡ hex_digit value }

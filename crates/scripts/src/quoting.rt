@@ -1,7 +1,7 @@
 //! The quoted form of bytes, in which every byte can be said and shown.
 
 ghost use Rattle.std.specs.Prelude.{◌≡◌, ◌++◌, OnOk};
-ghost use Rattle.scripts.specs.Quoting.{short, printable, plain, escaped, quoted_form};
+ghost use Rattle.scripts.specs.Quoting.{short, plain, escaped, quoted_form};
 
 use crate::numbers::hex_digit;
 use std::alloc::{AllocError, AllocFailed};
@@ -20,17 +20,12 @@ fn short_escape(byte: u8) -> Option<u8>
     }
 }
 
-fn is_printable(byte: u8) -> bool
-    ensures { result ≡ printable byte }
-{
-    b' ' <= byte && byte <= b'~'
-}
-
 /// Adds a byte that has no short escape.
+// Kept: `write!` with `{:02x}` fails with an error of input and output, and this with want of memory alone.
 fn push_plain(out: &mut Vec<u8>, byte: u8) -> Result<(), AllocError>
     ensures { OnOk result (out.new.items ≡ out.old.items ++ plain byte) }
 {
-    if is_printable(byte) {
+    if matches!(byte, b' '..=b'~') {
         return out.extend_from_slice(&[byte]);
     }
     let high = hex_digit(byte / 16);

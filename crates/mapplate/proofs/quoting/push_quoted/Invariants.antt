@@ -1,7 +1,0 @@
-use Rattle.std.proofs.Common.{◌≡◌, ◌++◌, take, vec_items}
-use Rattle.std.specs.List.{flat_map}
-use Rattle.mapplate.specs.Quoting.{escaped}
-use Rattle.mapplate.proofs.quoting.push_quoted.Given as goal
-
-abbrev pub invariant-loop-byte : goal.invariant-loop-byte
-invariant-loop-byte l = vec_items l.out ≡ vec_items l.initial.out ++ flat_map escaped (take l.byte-index l.bytes)
