@@ -98,6 +98,7 @@ impl<S: Store> Plate<S> {
             id,
         };
         let owed = SLASH + end_tags_size(&self.names);
+        // `Full` and `Fault` are other crates' types, so no `From` between them can stand here.
         self.pen.call(&opening, owed).map_err(|_| Fault::Full)?;
         self.names.push(element);
         self.stage = Stage::Fresh;

@@ -6,6 +6,7 @@ ghost use Rattle.plates.specs.Elements.{element_name, is_gradient};
 #[derive(Clone, Copy, PartialEq, Eq, Debug, Default)]
 pub enum Element {
     Svg,
+    // It fills the unused places of a plate's names.
     #[default]
     G,
     Defs,
