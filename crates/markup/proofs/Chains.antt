@@ -68,9 +68,6 @@ after_lost s (b ∷ x) l h =
     (λ (k : s.capacity ≤ length s.held). ap (λ (z : PenState). z.lost) (after_full s b x k))
     (cases_lt (length s.held) s.capacity)
 
-pub after_split : (s : PenState) (x y : List ℕ) → after s (x ++ y) ≡ after (after s x) y
-after_split s x y = sym (after_after s x y)
-
 -- parts that make up y
 pub parts : (s : PenState) (xs : List (List ℕ)) (y : List ℕ) → joined xs ≡ y → afters s xs ≡ after s y
 parts s xs y e = afters_joined s xs ∙ ap (after s) e
