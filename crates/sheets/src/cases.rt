@@ -76,6 +76,7 @@ impl Keyword for PaintOrder {
 
     const WANTED: Keywords = Keywords::PaintOrder;
 
+    #[tactic(auto, unfolding(crate::specs::Keywords::paint_order_word))]
     fn word(self) -> &'static [u8] {
         match self {
             PaintOrder::FillAndStroke => b"FillAndStroke",
@@ -160,6 +161,7 @@ impl Keyword for BlendMode {
 
     const WANTED: Keywords = Keywords::BlendMode;
 
+    #[tactic(auto, unfolding(crate::specs::Keywords::blend_mode_word))]
     fn word(self) -> &'static [u8] {
         match self {
             BlendMode::Normal => b"Normal",
@@ -236,6 +238,7 @@ impl Keyword for TextRendering {
 
     const WANTED: Keywords = Keywords::TextRendering;
 
+    #[tactic(auto, unfolding(crate::specs::Keywords::text_rendering_word))]
     fn word(self) -> &'static [u8] {
         match self {
             TextRendering::OptimizeSpeed => b"OptimizeSpeed",
@@ -260,6 +263,7 @@ impl Keyword for ImageRendering {
 
     const WANTED: Keywords = Keywords::ImageRendering;
 
+    #[tactic(auto, unfolding(crate::specs::Keywords::image_rendering_word))]
     fn word(self) -> &'static [u8] {
         match self {
             ImageRendering::OptimizeQuality => b"OptimizeQuality",
@@ -290,6 +294,7 @@ impl Keyword for WritingMode {
 
     const WANTED: Keywords = Keywords::WritingMode;
 
+    #[tactic(auto, unfolding(crate::specs::Keywords::writing_mode_word))]
     fn word(self) -> &'static [u8] {
         match self {
             WritingMode::LeftToRight => b"LeftToRight",
@@ -349,6 +354,7 @@ impl Keyword for FontStretch {
 
     const WANTED: Keywords = Keywords::FontStretch;
 
+    #[tactic(auto, unfolding(crate::specs::Keywords::font_stretch_word))]
     fn word(self) -> &'static [u8] {
         match self {
             FontStretch::UltraCondensed => b"UltraCondensed",
@@ -385,6 +391,7 @@ impl Keyword for DominantBaseline {
 
     const WANTED: Keywords = Keywords::DominantBaseline;
 
+    #[tactic(auto, unfolding(crate::specs::Keywords::dominant_baseline_word))]
     fn word(self) -> &'static [u8] {
         match self {
             DominantBaseline::Auto => b"Auto",
@@ -427,6 +434,7 @@ impl Keyword for AlignmentBaseline {
 
     const WANTED: Keywords = Keywords::AlignmentBaseline;
 
+    #[tactic(auto, unfolding(crate::specs::Keywords::alignment_baseline_word))]
     fn word(self) -> &'static [u8] {
         match self {
             AlignmentBaseline::Auto => b"Auto",
@@ -469,6 +477,7 @@ impl Keyword for LengthAdjust {
 
     const WANTED: Keywords = Keywords::LengthAdjust;
 
+    #[tactic(auto, unfolding(crate::specs::Keywords::length_adjust_word))]
     fn word(self) -> &'static [u8] {
         match self {
             LengthAdjust::Spacing => b"Spacing",
@@ -488,6 +497,7 @@ impl Keyword for Units {
 
     const WANTED: Keywords = Keywords::Units;
 
+    #[tactic(auto, unfolding(crate::specs::Keywords::units_word))]
     fn word(self) -> &'static [u8] {
         match self {
             Units::UserSpaceOnUse => b"UserSpaceOnUse",

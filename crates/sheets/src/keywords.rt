@@ -1,12 +1,14 @@
 //! Words that name the cases of an enum, looked up once for all such enums.
 
-ghost use Rattle.std.specs.Prelude.{◌≡◌, ℕ, List, Decides};
+ghost use Rattle.std.specs.Prelude.{◌≡◌, ℕ, List, Decides, OnOk};
+ghost use Rattle.scripts.specs.Cursors.{FewerLeft};
 ghost use Rattle.sheets.specs.Lookups.{Named};
 
 use scripts::cursors::Words;
 use scripts::failures::{Expected, Failure, Keywords};
 
 /// An enum whose cases hold nothing and have words.
+// Kept: `word` is a match, which names each case; one table of pairs for both methods could leave a case out unseen.
 pub trait Keyword: Copy + 'static {
     ghost spelled: { Self → List ℕ };
 
@@ -34,21 +36,16 @@ fn is_same(left: &[u8], right: &[u8]) -> bool
 pub fn named<K: Keyword>(word: &[u8]) -> Option<K>
     ensures { Named K.Keyword.spelled K.Keyword.listed word.now result }
 {
-    for case in K::cases() {
-        if is_same(case.word(), word) {
-            return Some(*case);
-        }
-    }
-    None
+    K::cases()
+        .iter()
+        .copied()
+        .find(|case| is_same(case.word(), word))
 }
 
 /// The case of an enum.
-pub fn take_case<K: Keyword>(words: &mut Words) -> Result<K, Failure> {
-    let Some(word) = words.take() else {
-        return Err(words.ended(Expected::Case(K::WANTED)));
-    };
-    match named::<K>(word) {
-        Some(case) => Ok(case),
-        None => Err(words.instead(Expected::Case(K::WANTED), word)),
-    }
+pub fn take_case<K: Keyword>(words: &mut Words) -> Result<K, Failure>
+    ensures { OnOk result (FewerLeft words.old words.new) }
+{
+    let word = words.word(Expected::Case(K::WANTED))?;
+    named(word).ok_or_else(|| words.instead(Expected::Case(K::WANTED), word))
 }

@@ -8,10 +8,9 @@ pub const MOST: usize = 100_000;
 
 /// Whether so many entries more, so many times, still have room.
 fn has_room(held: usize, more: usize, times: usize) -> bool {
-    match more.checked_mul(times) {
-        Some(all) => held <= MOST && all <= MOST - held,
-        None => false,
-    }
+    more.checked_mul(times)
+        .and_then(|all| held.checked_add(all))
+        .is_some_and(|all| all <= MOST)
 }
 
 /// Adds entries to a list, so many times over.

@@ -1,6 +1,7 @@
 //! Places in lists, and texts, which are places in the pool.
 
-ghost use Rattle.std.specs.Prelude.{◌≡◌, ◌<◌, length, IfSome, slice_index};
+ghost use Rattle.std.specs.Prelude.{◌≡◌, ◌<◌, length, IfSome, OnOk, slice_index};
+ghost use Rattle.scripts.specs.Cursors.{FewerLeft};
 
 use crate::lists::append;
 use drawing::rows::Place;
@@ -8,55 +9,38 @@ use scripts::cursors::{Words, take_number};
 use scripts::failures::{Expected, Failure};
 use scripts::numbers::number;
 
-/// The place of nothing.
-pub const NOWHERE: Place = Place { start: 0, count: 0 };
-
 /// Where the first `+` stands.
 fn plus_in(word: &[u8]) -> Option<usize>
     ensures { IfSome result (λ i. (i < length word.now) × (slice_index word.now i ≡ 43)) }
 {
-    for (index, byte) in word.iter().enumerate() {
-        if *byte == b'+' {
-            return Some(index);
-        }
-    }
-    None
+    word.iter().position(|byte| *byte == b'+')
 }
 
 /// The place that `START+COUNT` says.
 fn place_said(word: &[u8]) -> Option<Place> {
     let plus = plus_in(word)?;
-    let start = number(&word[0..plus], u64::MAX)?;
-    let count = number(&word[plus + 1..], u64::MAX)?;
     Some(Place {
-        start: start as usize,
-        count: count as usize,
+        start: number(&word[..plus], u64::MAX)? as usize,
+        count: number(&word[plus + 1..], u64::MAX)? as usize,
     })
 }
 
 /// `@START+COUNT`
-pub fn take_place(words: &mut Words) -> Result<Place, Failure> {
-    let Some(word) = words.take() else {
-        return Err(words.ended(Expected::Place));
-    };
-    if let [b'@', said @ ..] = word {
-        if let Some(place) = place_said(said) {
-            return Ok(place);
-        }
-    }
-    Err(words.instead(Expected::Place, word))
+pub fn take_place(words: &mut Words) -> Result<Place, Failure>
+    ensures { OnOk result (FewerLeft words.old words.new) }
+{
+    words.said(Expected::Place, |word| {
+        word.strip_prefix(b"@").and_then(place_said)
+    })
 }
 
 /// A text, which goes to the end of the pool, or a place.
-pub fn take_text(words: &mut Words, pool: &mut Vec<u8>) -> Result<Place, Failure> {
-    let Some(word) = words.take() else {
-        return Err(words.ended(Expected::Text));
-    };
-    if let [b'@', said @ ..] = word {
-        return match place_said(said) {
-            Some(place) => Ok(place),
-            None => Err(words.instead(Expected::Place, word)),
-        };
+pub fn take_text(words: &mut Words, pool: &mut Vec<u8>) -> Result<Place, Failure>
+    ensures { OnOk result (FewerLeft words.old words.new) }
+{
+    let word = words.word(Expected::Text)?;
+    if let Some(said) = word.strip_prefix(b"@") {
+        return place_said(said).ok_or_else(|| words.instead(Expected::Place, word));
     }
     let start = pool.len();
     append(words, pool, word, 1)?;
@@ -67,6 +51,8 @@ pub fn take_text(words: &mut Words, pool: &mut Vec<u8>) -> Result<Place, Failure
 }
 
 /// Any number of 64 bits.
-pub fn take_count(words: &mut Words) -> Result<usize, Failure> {
+pub fn take_count(words: &mut Words) -> Result<usize, Failure>
+    ensures { OnOk result (FewerLeft words.old words.new) }
+{
     Ok(take_number(words, u64::MAX, Expected::Count)? as usize)
 }

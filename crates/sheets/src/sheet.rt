@@ -59,11 +59,7 @@ fn add_entries<E: Entry + Drop>(
 /// Adds the bytes of the words of a line, so many times over.
 fn add_texts(pool: &mut Vec<u8>, times: usize, words: &mut Words) -> Result<(), Failure> {
     let mut bytes = Vec::new(words.heap);
-    // each turn takes a word
-    for _ in 0..words.words.len() {
-        let Some(word) = words.take() else {
-            break;
-        };
+    for word in words.by_ref() {
         bytes.extend_from_slice(word)?;
     }
     append(words, pool, bytes.as_slice(), times)
@@ -112,49 +108,44 @@ impl Sheet {
         }
     }
 
-    /// Adds what the rest of a line says to the list that its first word names. Not so where that names no list.
-    fn add(&mut self, name: &[u8], times: usize, words: &mut Words) -> Result<bool, Failure> {
+    /// Adds what the rest of a line says to the list that its first word names, if it names one.
+    fn add(&mut self, name: &[u8], times: usize, words: &mut Words) -> Option<Result<(), Failure>> {
         let pool = &mut self.pool;
-        match name {
-            b"nodes" => add_row(&mut self.nodes, pool, times, words)?,
-            b"groups" => add_row(&mut self.groups, pool, times, words)?,
-            b"paths" => add_row(&mut self.paths, pool, times, words)?,
-            b"images" => add_row(&mut self.images, pool, times, words)?,
-            b"texts" => add_row(&mut self.texts, pool, times, words)?,
-            b"chunks" => add_row(&mut self.chunks, pool, times, words)?,
-            b"spans" => add_row(&mut self.spans, pool, times, words)?,
-            b"segments" => add_entries(&mut self.segments, pool, times, words)?,
-            b"numbers" => add_entries(&mut self.numbers, pool, times, words)?,
-            b"references" => add_entries(&mut self.references, pool, times, words)?,
-            b"families" => add_entries(&mut self.families, pool, times, words)?,
-            b"shifts" => add_entries(&mut self.shifts, pool, times, words)?,
-            b"gradients" => add_row(&mut self.gradients, pool, times, words)?,
-            b"stops" => add_row(&mut self.stops, pool, times, words)?,
-            b"pool" => add_texts(pool, times, words)?,
-            _ => return Ok(false),
-        }
-        Ok(true)
+        Some(match name {
+            b"nodes" => add_row(&mut self.nodes, pool, times, words),
+            b"groups" => add_row(&mut self.groups, pool, times, words),
+            b"paths" => add_row(&mut self.paths, pool, times, words),
+            b"images" => add_row(&mut self.images, pool, times, words),
+            b"texts" => add_row(&mut self.texts, pool, times, words),
+            b"chunks" => add_row(&mut self.chunks, pool, times, words),
+            b"spans" => add_row(&mut self.spans, pool, times, words),
+            b"segments" => add_entries(&mut self.segments, pool, times, words),
+            b"numbers" => add_entries(&mut self.numbers, pool, times, words),
+            b"references" => add_entries(&mut self.references, pool, times, words),
+            b"families" => add_entries(&mut self.families, pool, times, words),
+            b"shifts" => add_entries(&mut self.shifts, pool, times, words),
+            b"gradients" => add_row(&mut self.gradients, pool, times, words),
+            b"stops" => add_row(&mut self.stops, pool, times, words),
+            b"pool" => add_texts(pool, times, words),
+            _ => return None,
+        })
     }
 
     /// `N LIST ..`, after `repeat`
     fn add_repeated(&mut self, words: &mut Words) -> Result<(), Failure> {
         let times = take_number(words, MOST as u64, Expected::Times)? as usize;
-        let Some(name) = words.take() else {
-            return Err(words.ended(Expected::List));
-        };
-        if self.add(name, times, words)? {
-            Ok(())
-        } else {
-            Err(words.instead(Expected::List, name))
-        }
+        let name = words.word(Expected::List)?;
+        self.add(name, times, words)
+            .unwrap_or_else(|| Err(words.instead(Expected::List, name)))
     }
 
-    /// Reads a statement that begins with a word, where it is one of a table.
+    /// Reads a statement that begins with a word, and says whether it is one of a table.
+    // Kept: the answer is the question of its caller, who goes on to other statements where it is none.
     pub fn read(&mut self, name: &[u8], words: &mut Words) -> Result<bool, Failure> {
-        if name == b"repeat".as_slice() {
-            self.add_repeated(words)?;
-            return Ok(true);
-        }
-        self.add(name, 1, words)
+        let added = match name {
+            b"repeat" => Some(self.add_repeated(words)),
+            _ => self.add(name, 1, words),
+        };
+        Ok(added.transpose()?.is_some())
     }
 }
