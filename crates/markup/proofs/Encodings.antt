@@ -113,13 +113,15 @@ attributes_encoded (p ∷ ps) rest =
     let q = p.quote in
     let m = quote_mark q in
     let v = value_then q p.value (m ∷ attributes_then ps rest) in
-    ap (λ z. 32 ∷ (encodes p.name ++ (61 ∷ m ∷ value_then q (encodes p.value) (m ∷ z)))) (attributes_encoded ps rest)
-    ∙ ap (λ z. 32 ∷ (encodes p.name ++ (61 ∷ m ∷ value_then q (encodes p.value) z))) (sym (encodes_quote q (attributes_then ps rest)))
-    ∙ ap (λ z. 32 ∷ (encodes p.name ++ (61 ∷ m ∷ z))) (value_encoded q p.value (m ∷ attributes_then ps rest))
-    ∙ ap (λ z. 32 ∷ (encodes p.name ++ (61 ∷ z))) (sym (encodes_quote q v))
-    ∙ ap (λ z. 32 ∷ (encodes p.name ++ z)) (sym (encodes_ascii_front 61 (m ∷ v) (omega arith)))
-    ∙ ap (λ z. 32 ∷ z) (sym (encodes-append p.name (61 ∷ m ∷ v)))
-    ∙ sym (encodes_ascii_front 32 (p.name ++ (61 ∷ m ∷ v)) (omega arith))
+    rw (
+      attributes_encoded ps rest,
+      ← encodes_quote q (attributes_then ps rest),
+      value_encoded q p.value (m ∷ attributes_then ps rest),
+      encodes_ascii_front 32 (p.name ++ (61 ∷ m ∷ v)) (omega arith),
+      encodes-append p.name (61 ∷ m ∷ v),
+      encodes_ascii_front 61 (m ∷ v) (omega arith),
+      encodes_quote q v,
+    )
 
 pub characters_render : (cs : List ℕ) (m : Written) (rest : List ℕ) → render (characters cs m) rest ≡ text_then cs (render m rest)
 characters_render [] m rest = refl
@@ -154,18 +156,19 @@ render_encoded (character c m) rest =
     ∙ ap (λ z. text_then z (encodes (render m rest))) (sym (append-nil (encode c)))
     ∙ text_encoded (c ∷ []) (render m rest)
 render_encoded (element n ps k m) rest =
-    let e = encodes n in
     let more = render m rest in
     let end = 60 ∷ 47 ∷ (n ++ (62 ∷ more)) in
     let tail = tag_end (is_empty k) more (render k end) in
-    ap (λ z. 60 ∷ (e ++ attributes_then (map encoded_attribute ps) (tag_end (is_empty (encoded k)) z (render (encoded k) (60 ∷ 47 ∷ (e ++ (62 ∷ z))))))) (render_encoded m rest)
-    ∙ ap (λ z. 60 ∷ (e ++ attributes_then (map encoded_attribute ps) (tag_end (is_empty (encoded k)) (encodes more) (render (encoded k) z)))) (end_tag_encoded n more)
-    ∙ ap (λ z. 60 ∷ (e ++ attributes_then (map encoded_attribute ps) (tag_end (is_empty (encoded k)) (encodes more) z))) (render_encoded k end)
-    ∙ ap (λ z. 60 ∷ (e ++ attributes_then (map encoded_attribute ps) (tag_end z (encodes more) (encodes (render k end))))) (encoded_empty k)
-    ∙ ap (λ z. 60 ∷ (e ++ attributes_then (map encoded_attribute ps) z)) (tag_end_encoded (is_empty k) more (render k end))
-    ∙ ap (λ z. 60 ∷ (e ++ z)) (attributes_encoded ps tail)
-    ∙ ap (λ z. 60 ∷ z) (sym (encodes-append n (attributes_then ps tail)))
-    ∙ sym (encodes_ascii_front 60 (n ++ attributes_then ps tail) (omega arith))
+    rw (
+      render_encoded m rest,
+      end_tag_encoded n more,
+      render_encoded k end,
+      encoded_empty k,
+      tag_end_encoded (is_empty k) more (render k end),
+      attributes_encoded ps tail,
+      encodes_ascii_front 60 (n ++ attributes_then ps tail) (omega arith),
+      encodes-append n (attributes_then ps tail),
+    )
 
 pub escapes_of_bytes : EscapesOfBytes
 escapes_of_bytes = record { value = value_encoded; text = text_encoded; attributes = attributes_encoded; forest = render_encoded }

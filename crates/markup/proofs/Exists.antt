@@ -1,5 +1,5 @@
 -- Every well-formed forest, rendered, has a reading: the content is built from the end, one character or element at a time.
-use Rattle.std.proofs.Common.{◌≡◌, ℕ, Bool, true, false, not, eqb, List, [], ◌∷◌, ◌++◌, map, codes, sym, refl, ap, ◌∙◌, subst, ap₂, arith}
+use Rattle.std.proofs.Common.{◌≡◌, ℕ, Bool, true, false, not, eqb, List, [], ◌∷◌, ◌++◌, map, codes, sym, refl, ap, ◌∙◌, subst, ap₂}
 use Rattle.markup.specs.declared.quotes.Quote.{Quote}
 use Rattle.markup.specs.Escapes.{quote_mark, escape_value, escape_text, value_then}
 use Rattle.markup.specs.Attributes.{Attribute, attributes_then}
@@ -176,8 +176,8 @@ made_element n ps k m h u q a b = go (is_empty k) refl
 
     none : (k : Written) → is_empty k ≡ true → empty ≡ plain k
     none empty e = refl
-    none (character c k) e = let z : ◌≡◌ {A = ℕ} 0 1 = cc in absurd (omega arith)
-    none (element c x k k') e = let z : ◌≡◌ {A = ℕ} 0 1 = cc in absurd (omega arith)
+    none (character c k) e = cc
+    none (element c x k k') e = cc
 
     go : (b : Bool) → is_empty k ≡ b → Made (element n ps k m)
     go true e =

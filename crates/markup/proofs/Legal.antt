@@ -2,6 +2,7 @@
 use Rattle.std.proofs.Common.{◌≡◌, ℕ, Bool, true, false, cond, List, [], ◌∷◌, ◌++◌, map, sym, refl, ap, ◌∙◌, subst, ap₂}
 use lib.Utf8.{encode, encodes}
 use Rattle.std.proofs.lemmas.Str.{encodes-append}
+use Rattle.std.proofs.lemmas.List.{map-append}
 use Rattle.markup.specs.Attributes.{Attribute, attributes_then}
 use Rattle.markup.specs.Tags.{end_tag}
 use Rattle.markup.specs.Trees.{empty, character, element, Written, characters, is_empty, followed_by, plain, LegalAttributes, WellFormed}
@@ -74,18 +75,14 @@ outer_encoded [] = refl
 outer_encoded (e ∷ around) =
     let start = start_tag e.name e.attributes in
     let inside = 62 ∷ render e.children [] in
-    ap₂ (λ x y. x ++ y) (outer_encoded around)
-    (ap₂ (λ x y. x ++ y) (start_tag_encoded e.name e.attributes) (greater_encoded e.children) ∙ sym (encodes-append start inside))
-    ∙ sym (encodes-append (outer around) (start ++ inside))
+    cc (outer_encoded around, start_tag_encoded e.name e.attributes, greater_encoded e.children, encodes-append (outer around) (start ++ inside), encodes-append start inside)
 
 open_encoded : (stack : List OpenElement) → open_so_far (map encoded_open stack) ≡ encodes (open_so_far stack)
 open_encoded [] = refl
 open_encoded (e ∷ around) =
     let start = start_tag e.name e.attributes in
     let inside = content_so_far e.children in
-    ap₂ (λ x y. x ++ y) (outer_encoded around)
-    (ap₂ (λ x y. x ++ y) (start_tag_encoded e.name e.attributes) (content_encoded e.children) ∙ sym (encodes-append start inside))
-    ∙ sym (encodes-append (outer around) (start ++ inside))
+    cc (outer_encoded around, start_tag_encoded e.name e.attributes, content_encoded e.children, encodes-append (outer around) (start ++ inside), encodes-append start inside)
 
 bytes_encoded : (u : Unfinished) → so_far (encoded_unfinished u) ≡ encodes (so_far u)
 bytes_encoded u =
@@ -131,13 +128,9 @@ followed_encoded empty b = refl
 followed_encoded (character c a) b = ap (characters (encode c)) (followed_encoded a b) ∙ sym (characters_followed (encode c) (encoded a) (encoded b))
 followed_encoded (element n ps k a) b = ap (element (encodes n) (map encoded_attribute ps) (encoded k)) (followed_encoded a b)
 
-attributes_followed : (a b : List Attribute) → map encoded_attribute (a ++ b) ≡ map encoded_attribute a ++ map encoded_attribute b
-attributes_followed [] b = refl
-attributes_followed (x ∷ a) b = ap (λ z. encoded_attribute x ∷ z) (attributes_followed a b)
-
 given_encoded : (given : List Attribute) (stack : List OpenElement) → map encoded_open (give_to given stack) ≡ give_to (map encoded_attribute given) (map encoded_open stack)
 given_encoded given [] = refl
-given_encoded given (e ∷ around) = ap (λ z. open_element (encodes e.name) z (encoded e.children) ∷ map encoded_open around) (attributes_followed e.attributes given)
+given_encoded given (e ∷ around) = ap (λ z. open_element (encodes e.name) z (encoded e.children) ∷ map encoded_open around) (map-append encoded_attribute e.attributes given)
 
 added_encoded : (content outside : Written) (stack : List OpenElement) → encoded_unfinished (add_at content outside stack) ≡ add_at (encoded content) (encoded outside) (map encoded_open stack)
 added_encoded content outside [] = ap (λ z. unfinished z []) (followed_encoded outside content)

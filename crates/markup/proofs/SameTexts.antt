@@ -1,10 +1,9 @@
 -- Where a text that ends in a delimiter ends: two that are spelled alike are the same.
-use Rattle.std.proofs.Common.{◌≡◌, ℕ, Bool, true, false, List, [], ◌∷◌, ◌++◌, codes, sym, refl, ap, ◌∙◌, subst, ap₂}
-use mathlib.Core.Bool.{false≢true}
+use Rattle.std.proofs.Common.{◌≡◌, ℕ, List, [], ◌∷◌, ◌++◌, codes, sym, refl, ap, ◌∙◌, subst, ap₂}
 use Rattle.std.proofs.lemmas.List.{append_assoc}
 use Rattle.markup.specs.Characters.{is_space, ZeroOrMore, Without}
 use Rattle.markup.specs.Content.{PIText}
-use Rattle.markup.proofs.Spans.{head_same, tail_same, clash, each_space}
+use Rattle.markup.proofs.Spans.{head_same, tail_same, no_nil, clash, each_space}
 
 pub without_tail : (s : List ℕ) (x : ℕ) (d : List ℕ) → Without s (x ∷ d) → Without s d
 without_tail s x d h a b e = h (x ∷ a) b (ap (λ z. x ∷ z) e)
@@ -57,13 +56,6 @@ without_space : (space d : List ℕ) → ZeroOrMore is_space space → Without (
 without_space [] d h w a b e = w a b e
 without_space (x ∷ space) d h w [] b e = each_space (λ v. v ≡ 63 → ⊥) (λ q. clash (ap (λ z. z ∷ []) q) tt) (λ q. clash (ap (λ z. z ∷ []) q) tt) (λ q. clash (ap (λ z. z ∷ []) q) tt) (λ q. clash (ap (λ z. z ∷ []) q) tt) x h.0 (head_same e)
 without_space (x ∷ space) d h w (y ∷ a) b e = without_space space d h.1 w a b (tail_same e)
-
-no_nil : {x : ℕ} {xs : List ℕ} → [] ≡ x ∷ xs → ⊥
-no_nil e = false≢true (ap some e)
-  where
-    some : List ℕ → Bool
-    some [] = false
-    some (x ∷ xs) = true
 
 without_nil : (s : List ℕ) (c : ℕ) → Without (c ∷ s) []
 without_nil s c [] b e = no_nil e

@@ -1,5 +1,5 @@
 -- Two texts that are the same, taken apart: where a class of characters ends, and which reference stands there.
-use Rattle.std.proofs.Common.{◌≡◌, ℕ, ◌+◌, Bool, cond, not, T, eqb, List, [], ◌∷◌, ◌++◌, sym, refl, ap, ◌∙◌, subst, ap₂, inl, inr, arith, eqb→eq, T_not}
+use Rattle.std.proofs.Common.{◌≡◌, ℕ, ◌+◌, Bool, cond, not, T, eqb, List, [], ◌∷◌, ◌++◌, sym, refl, ap, ◌∙◌, subst, ap₂, inl, inr, eqb→eq, T_not}
 use lib.Dec.{eqb_refl}
 use Rattle.markup.specs.Characters.{ZeroOrMore, OneOrMore, Name, is_space, is_digit, is_hex_digit, is_name_start, is_name_char}
 use Rattle.markup.specs.CharacterReferences.{Entity, amp, lt, gt, quot, apos, entity_name, entity_character, Reference, entity_ref, decimal_ref, hexadecimal_ref, reference_then, referred, ReferenceStands}
@@ -10,6 +10,9 @@ head_same e = cc
 
 pub tail_same : {x y : ℕ} {xs ys : List ℕ} → x ∷ xs ≡ y ∷ ys → xs ≡ ys
 tail_same e = cc
+
+pub no_nil : {x : ℕ} {xs : List ℕ} → [] ≡ x ∷ xs → ⊥
+no_nil e = cc
 
 -- two numerals that differ: `clash e tt`
 pub clash : {x y : ℕ} {xs ys : List ℕ} → x ∷ xs ≡ y ∷ ys → T (not (eqb x y)) → ⊥
@@ -23,9 +26,9 @@ Stops class (c ∷ rest) = T (not (class c))
 pub span :
     (class : ℕ → Bool) (xs ys r q : List ℕ) → ZeroOrMore class xs → ZeroOrMore class ys → Stops class r → Stops class q → xs ++ r ≡ ys ++ q → (xs ≡ ys) × (r ≡ q)
 span class [] [] r q a b s u e = (refl, e)
-span class [] (y ∷ ys) [] q a b s u e = let z : ◌≡◌ {A = ℕ} 0 1 = cc in absurd (omega arith)
+span class [] (y ∷ ys) [] q a b s u e = absurd (no_nil e)
 span class [] (y ∷ ys) (c ∷ r) q a b s u e = absurd (not_in class b.0 s (sym (head_same e)))
-span class (x ∷ xs) [] r [] a b s u e = let z : ◌≡◌ {A = ℕ} 0 1 = cc in absurd (omega arith)
+span class (x ∷ xs) [] r [] a b s u e = absurd (no_nil (sym e))
 span class (x ∷ xs) [] r (c ∷ q) a b s u e = absurd (not_in class a.0 u (head_same e))
 span class (x ∷ xs) (y ∷ ys) r q a b s u e =
     let ih = span class xs ys r q a.1 b.1 s u (tail_same e) in

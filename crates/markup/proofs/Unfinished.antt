@@ -19,21 +19,14 @@ tag_ended (e ∷ around) = go (is_empty e.children) refl
     start = start_tag e.name e.attributes
 
     go : (b : Bool) → is_empty e.children ≡ b → (outer around ++ (start ++ cond (is_empty e.children) [] (62 ∷ render e.children []))) ++ before_content (is_empty e.children) ≡ outer around ++ (start ++ 62 ∷ render e.children [])
-    go true h =
-        ap (λ b. (outer around ++ (start ++ cond b [] (62 ∷ render e.children []))) ++ before_content b) h
-        ∙ append_assoc (outer around) (start ++ []) (62 ∷ [])
-        ∙ ap (λ z. outer around ++ (z ++ 62 ∷ [])) (append-nil start)
-        ∙ ap (λ z. outer around ++ (start ++ 62 ∷ render z [])) (sym (empty_is e.children h))
-    go false h =
-        ap (λ b. (outer around ++ (start ++ cond b [] (62 ∷ render e.children []))) ++ before_content b) h
-        ∙ append-nil (outer around ++ (start ++ 62 ∷ render e.children []))
+    go true h = rw (empty_is e.children h, append-nil start, append_assoc (outer around) start (62 ∷ []))
+    go false h = rw (h, append-nil (outer around ++ (start ++ 62 ∷ render e.children [])))
 
 -- content x after what is so far
 after_tag : (outside : Written) (stack : List OpenElement) (x : List ℕ) → render outside [] ++ (outer stack ++ x) ≡ so_far (unfinished outside stack) ++ (before_content (in_start_tag stack) ++ x)
 after_tag outside stack x =
-    ap (λ z. render outside [] ++ (z ++ x)) (sym (tag_ended stack))
-    ∙ ap (λ z. render outside [] ++ z) (append_assoc (open_so_far stack) (before_content (in_start_tag stack)) x)
-    ∙ sym (append_assoc (render outside []) (open_so_far stack) (before_content (in_start_tag stack) ++ x))
+    let tag = before_content (in_start_tag stack) in
+    rw (← tag_ended stack, append_assoc (open_so_far stack) tag x, append_assoc (render outside []) (open_so_far stack) (tag ++ x))
 
 begun_grows : (name : List ℕ) (attributes : List Attribute) (u : Unfinished) → so_far (begin name attributes u) ≡ so_far u ++ (before_content (in_start_tag u.stack) ++ start_tag name attributes)
 begun_grows name attributes u =
@@ -110,10 +103,7 @@ ended_grows : (outside : Written) (e : OpenElement) (around : List OpenElement) 
 ended_grows outside e around =
     let b = start_tag e.name e.attributes ++ content_so_far e.children in
     let m = end_mark (is_empty e.children) e.name in
-    added_outer (ended e) outside around refl
-    ∙ ap (λ z. render outside [] ++ (outer around ++ z)) (sym (ended_whole e))
-    ∙ ap (λ z. render outside [] ++ z) (sym (append_assoc (outer around) b m))
-    ∙ sym (append_assoc (render outside []) (outer around ++ b) m)
+    rw (added_outer (ended e) outside around refl, ← ended_whole e, append_assoc (render outside []) (outer around ++ b) m, append_assoc (outer around) b m)
 
 pub growth : Growth
 growth =
@@ -171,14 +161,7 @@ ended_forest outside (e ∷ p ∷ around) =
 -- by ending one element after another
 whole : (depth : List OpenElement) (outside : Written) (stack : List OpenElement) → open_names depth ≡ open_names stack → so_far (unfinished outside stack) ++ owed (unfinished outside stack) ≡ render (finished (unfinished outside stack)) []
 whole depth outside [] h = append-nil (render outside [] ++ []) ∙ append-nil (render outside []) ∙ ap (λ z. render z []) (sym (followed_by_nothing outside))
-whole [] outside (e ∷ around) h = absurd (no_names e.name (open_names around) h)
-  where
-    no_names : (n : List ℕ) (ns : List (List ℕ)) → [] ≡ n ∷ ns → ⊥
-    no_names n ns h = false≢true (ap some h)
-      where
-        some : List (List ℕ) → Bool
-        some [] = false
-        some (x ∷ xs) = true
+whole [] outside (e ∷ around) h = cc
 whole (d ∷ depth) outside (e ∷ around) h =
     let u = unfinished outside (e ∷ around) in
     let v = end_innermost u in

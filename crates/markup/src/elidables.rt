@@ -4,6 +4,7 @@ ghost use Rattle.std.specs.Prelude.{◌≡◌, Bool, []};
 ghost use Rattle.std.specs.Float.Ieee.{eq};
 ghost use Rattle.std.specs.Str.{bytes_eq};
 ghost use Rattle.markup.specs.Attributes.{attribute, attributes_then, unless};
+ghost use Rattle.markup.specs.Numbers.{shown_bare};
 ghost use Rattle.markup.specs.Pens.{after};
 ghost use Rattle.markup.specs.State.{state};
 
@@ -66,8 +67,11 @@ impl<V: Shown + PartialEq> Elidable for WithDefault<V> {
     }
 }
 
-/// A number is left out where it equals its default as a float does, and a keyword where it is the same word.
+/// A number is shown bare and left out where it equals its default as a float does; a keyword is shown as it is and left out
+/// where it is the same word.
 pub fn defaults_stand()
+    ensures numbers_shown { (v : _) → ⟦<WithDefault<f32> as Shown>⟧.shown v ≡ shown_bare v.value }
+    ensures keywords_shown { (v : _) → ⟦<WithDefault<Fixed<'static>> as Shown>⟧.shown v ≡ v.value.0.now }
     ensures numbers { (v : _) → ⟦<WithDefault<f32> as Elidable>⟧.plain v ≡ eq v.value v.default }
     ensures keywords { (v : _) → ⟦<WithDefault<Fixed<'static>> as Elidable>⟧.plain v ≡ bytes_eq v.value.0.now v.default.0.now }
 {}

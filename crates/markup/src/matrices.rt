@@ -13,7 +13,7 @@ use drawing::rows::Transform;
 use stores::Store;
 
 /// A transform, to be shown at a precision.
-#[derive(Clone, Copy)]
+#[derive(Clone, Copy, PartialEq, Debug)]
 pub struct Matrix {
     pub transform: Transform,
     pub precision: u8,
@@ -55,14 +55,6 @@ impl Elidable for Matrix {
     ghost plain = { λ m. let t = m.transform in is_identity t.sx t.ky t.kx t.sy t.tx t.ty };
 
     fn is_default(&self) -> bool {
-        let Transform {
-            sx,
-            ky,
-            kx,
-            sy,
-            tx,
-            ty,
-        } = self.transform;
-        [sx, ky, kx, sy, tx, ty] == [1.0, 0.0, 0.0, 1.0, 0.0, 0.0]
+        self.transform == Transform::identity()
     }
 }

@@ -1,5 +1,4 @@
 use Rattle.std.proofs.Common.{rules}
-use Rattle.std.proofs.lemmas.List.{take_all}
 use Rattle.markup.proofs.Written.{escaped_none, escaped_more}
 use Rattle.markup.proofs.escapes.Escaped.write.Goals as goal
 
@@ -8,6 +7,3 @@ loop-byte-init g c = search (rules, escaped_none)
 
 pub loop-byte-preserved : goal.loop-byte-preserved
 loop-byte-preserved g c = search (rules, escaped_more)
-
-pub returns : goal.returns
-returns g c = search (rules, take_all)
