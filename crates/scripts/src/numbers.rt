@@ -46,7 +46,8 @@ pub fn hex_byte(high: u8, low: u8) -> Option<u8>
 }
 
 /// The hexadecimal digit of a value.
-// Kept: `from_digit` gives an Option of a char, which would have to be unwrapped and cast.
+// Kept: `from_digit` gives an Option of a char, which would have to be unwrapped and cast; and markup's function of this name is no
+// dependency worth having for scripts, which stand on no crate of plates.
 pub fn hex_digit(value: u8) -> u8
     requires { value < 16 }
     ensures { result ≡ hex_digit value }

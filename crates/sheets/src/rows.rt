@@ -7,6 +7,7 @@ ghost use Rattle.scripts.specs.Cursors.{FewerLeft};
 use scripts::cursors::Words;
 use scripts::failures::{Expected, Failure, Fields};
 
+// Kept: the words and the pool apart, since most readers want the words alone, and a struct of both would be taken apart for each.
 /// A struct of a drawing that is read field by field.
 pub trait Row: Copy + Default {
     /// Whose fields a message names.
