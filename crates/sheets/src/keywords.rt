@@ -1,6 +1,6 @@
 //! Words that name the cases of an enum, looked up once for all such enums.
 
-ghost use Rattle.std.specs.Prelude.{◌≡◌, ℕ, List, Decides, OnOk};
+ghost use Rattle.std.specs.Prelude.{◌≡◌, ℕ, List, OnOk};
 ghost use Rattle.scripts.specs.Cursors.{FewerLeft};
 ghost use Rattle.sheets.specs.Lookups.{Named};
 
@@ -26,20 +26,11 @@ pub trait Keyword: Copy + 'static {
         ensures { result.now ≡ listed };
 }
 
-fn is_same(left: &[u8], right: &[u8]) -> bool
-    ensures { Decides result (left.now ≡ right.now) }
-{
-    left == right
-}
-
 /// The case of a word; none exactly where no case has it.
 pub fn named<K: Keyword>(word: &[u8]) -> Option<K>
     ensures { Named K.Keyword.spelled K.Keyword.listed word.now result }
 {
-    K::cases()
-        .iter()
-        .copied()
-        .find(|case| is_same(case.word(), word))
+    K::cases().iter().copied().find(|case| case.word() == word)
 }
 
 /// The case of an enum.
