@@ -52,6 +52,3 @@ count_bad test to i f h e = ap (λ n. count_up test n i) (one_less to i h) ∙ a
 pub count_all : {F : Type 0} (test : ℕ → Verdict F) (to i : ℕ) → to ≤ i → count_up test (to - i) i ≡ Ok tt
 unfolding count_up
 count_all test to i h = let e : to - i ≡ 0 = omega arith in ap (λ n. count_up test n i) e
-
-pub count_exit : {F : Type 0} (test : ℕ → Verdict F) (to i : ℕ) (q r s : Verdict F) (f : F) → count_up test (to - i) i ≡ s → q ≡ test i → i < to → q ≡ Err f → r ≡ Err f → r ≡ s
-count_exit test to i q r s f inv e h b g = g ∙ sym (count_bad test to i f h (sym e ∙ b)) ∙ inv

@@ -1,4 +1,4 @@
--- Rules by their numbers, and a walk over the entries of a list.
+-- Rules by their numbers.
 use Rattle.std.proofs.Common.{◌≡◌, ◌==◌, refl}
 use denote.Enum.Bare.{sameb}
 use Rattle.checks.specs.declared.entries.Rule.{Rule}

@@ -1,5 +1,5 @@
 -- The entries of a row: each a value that one rule looks at.
-use Rattle.std.specs.Prelude.{◌≡◌, ℕ, ◌+◌, Bool, true, false, cond, List, [], ◌∷◌, Ok, Option, ◌==◌, nat_le, nat_lt, Float}
+use Rattle.std.specs.Prelude.{ℕ, ◌+◌, Bool, true, false, cond, List, [], ◌∷◌, Ok, Option, ◌==◌, nat_le, nat_lt, Float}
 use Rattle.drawing.specs.declared.names.AId.{AId}
 use Rattle.drawing.specs.declared.faults.ValueFault.{ValueFault}
 use Rattle.drawing.specs.declared.faults.ValueFault.TheVariants as fault
@@ -111,7 +111,3 @@ by_rules fields =
 unfoldable pub each : {X : Type 0} → (X → Fields) → List X → Fields
 each fields [] = none
 each fields (x ∷ xs) = fields x then each fields xs
-
--- what a check answers at an item is the first fault of the item's entries
-abbrev pub ChecksFields : {X : Type 0} → (X → Verdict AttributeFault → Type 0) → Rule → (X → Fields) → Type 0
-ChecksFields {X} answer rule fields = (x : X) (verdict : Verdict AttributeFault) → answer x verdict → verdict ≡ first_at rule (fields x)

@@ -68,8 +68,7 @@ fn held_at(
 fn check_range(drawing: &Drawing, depth: usize, nodes: Range<usize>) -> Result<(), Broken>
     ensures { is_ok result ≡ range_stands drawing.now depth nodes.start nodes.end }
 {
-    // Kept: the next index is the node's own end, so no range or iterator of std steps so; and a recursion over what follows
-    // would be no plainer, and as deep as the range is long.
+    // Kept: a step can fail and looks into the node's own range first, so `iter::successors` would stand in the same loop.
     let mut index = nodes.start;
     while index < nodes.end {
         let end = drawing.node(index).end;

@@ -287,7 +287,8 @@ fn longest_lists(rt: HostRuntime) {
     assert_eq!(rt; with_pool(&[b'a'; 65537]), Err(3));
 }
 
-// Kept: tried as one drawing with two lent lists where it is used, which the borrow checker does not cover.
+// Kept: seven functions of one shape. Tried as one struct update where each is used, in four forms: the borrow checker refuses a list
+// lent there beside a sheet ("a reference at an intersection of lifetimes").
 
 fn with_segments(segments: &[PathSegment]) -> Result<(), u8> {
     let sheet = Sheet::good();

@@ -271,14 +271,7 @@ impl Sheet {
 
     /// Every segment after the first.
     pub fn set_segments(&mut self, segment: PathSegment) {
-        self.segments = [
-            self.segments[0],
-            segment,
-            segment,
-            segment,
-            segment,
-            segment,
-        ];
+        self.segments[1..].fill(segment);
     }
 
     pub fn drawing(&self) -> Drawing<'_> {

@@ -147,7 +147,7 @@ impl Rule {
     }
 
     /// Its word.
-    // Kept: the bytes and no Display, since a record and a plate are bytes.
+    // Kept: bytes and no Display, so that a record takes it as it takes `AId::name`.
     pub fn word(self) -> &'static [u8]
         ensures { result.now ≡ rule_word self }
     {

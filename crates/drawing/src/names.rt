@@ -43,7 +43,7 @@ pub enum AId {
 
 impl AId {
     /// The name as it is written.
-    // Kept: the bytes and no Display, since a record and a plate are bytes.
+    // Kept: bytes and no Display, since a plate writes them as they are, with no formatter.
     #[tactic(auto, unfolding(crate::specs::Names::attribute_name))]
     pub fn name(self) -> &'static [u8]
         ensures { result.now ≡ attribute_name self }

@@ -13,7 +13,7 @@ use stores::{Full, Store};
 #[derive(Drop)]
 pub struct Pen<S> {
     pub store: S,
-    // Kept: the store is still asked and cut back once a byte is lost, so no `Result` can hold it in the flag's place.
+    // Kept: a flag, for no value stands beside it, and the definitions have it as a Bool.
     pub lost: bool,
 }
 

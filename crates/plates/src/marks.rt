@@ -27,7 +27,6 @@ pub struct Opening<'a> {
 }
 
 impl Opening<'_> {
-    // Kept: both types are other crates', so no `From` between them can stand here.
     fn quote(&self) -> Quote
         ensures { result ≡ quote_of self.now.options.now }
     {

@@ -93,7 +93,7 @@ pub enum Fields {
 }
 
 /// What it said instead. A word is kept in its quoted form.
-// Kept: a `String` would need a proof that the quoted form is text, and a record takes the form as bytes.
+// Kept: bytes, since the quoted form is pushed byte by byte; for a `String` each byte would first be made a char.
 #[derive(Drop)]
 pub enum Found {
     LineEnd,

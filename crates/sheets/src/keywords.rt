@@ -8,7 +8,7 @@ use scripts::cursors::Words;
 use scripts::failures::{Expected, Failure, Keywords};
 
 /// An enum whose cases hold nothing and have words.
-// Kept: `word` is a match, which names each case; one table of pairs for both methods could leave a case out unseen.
+// Kept: two methods, since one match from words to cases would want a proof of `Named` for each of 18 enums, in place of one.
 pub trait Keyword: Copy + 'static {
     ghost spelled: { Self → List ℕ };
 
@@ -37,6 +37,5 @@ pub fn named<K: Keyword>(word: &[u8]) -> Option<K>
 pub fn take_case<K: Keyword>(words: &mut Words) -> Result<K, Failure>
     ensures { OnOk result (FewerLeft words.old words.new) }
 {
-    let word = words.word(Expected::Case(K::WANTED))?;
-    named(word).ok_or_else(|| words.instead(Expected::Case(K::WANTED), word))
+    words.said(Expected::Case(K::WANTED), named)
 }

@@ -140,7 +140,6 @@ impl Sheet {
     }
 
     /// Reads a statement that begins with a word, and says whether it is one of a table.
-    // Kept: the answer is the question of its caller, who goes on to other statements where it is none.
     pub fn read(&mut self, name: &[u8], words: &mut Words) -> Result<bool, Failure> {
         let added = match name {
             b"repeat" => Some(self.add_repeated(words)),

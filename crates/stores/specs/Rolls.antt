@@ -1,6 +1,7 @@
 -- A roll: records of 64 bytes. The low six bits of a record's first byte count its text bytes; the text follows;
 -- zeros fill the rest; a record is full before the next begins.
 use Rattle.std.specs.Prelude.{◌≡◌, ℕ, zero, suc, ◌-◌, ◌*◌, ◌/◌, ◌%◌, ◌≤◌, List, [], ◌∷◌, ◌++◌, length, take, drop, slice_index}
+use Rattle.std.proofs.Common.{arith, length-take, length-append}
 use Rattle.stores.specs.Reach.{reach}
 use Rattle.stores.specs.Seen.{Seen, size_of}
 use Rattle.stores.specs.Pages.{zeros}
@@ -41,3 +42,11 @@ pub record IsRoll (records len : ℕ) (buffer : List ℕ) : Type 0 where
   pub laid : take (64 * records) buffer ≡ roll_image records (roll_text records buffer)
   pub counted : len ≡ length (roll_text records buffer)
   pub fits : len ≤ 63 * records
+
+-- a record's text has at most 63 bytes, whatever the bytes are
+pub roll_text_within : (n : ℕ) (bytes : List ℕ) → length (roll_text n bytes) ≤ 63 * n
+roll_text_within zero bytes = omega arith
+roll_text_within (suc n) bytes =
+    let rest = roll_text_within n (drop 64 bytes) in
+    let front : length (record_text (take 64 bytes)) ≤ 63 = rw (length-take, length-take) (omega arith) in
+    rw length-append (omega arith)

@@ -18,7 +18,7 @@ const RECORD: usize = 64;
 const TEXT: usize = 63;
 
 // Kept: a length beside the buffer, which the caller lends, since the library has no heap.
-// Kept: a struct beside `Page`, with which it shares what callers see (`Seen`), but not one step of put, cut or byte.
+// Kept: a struct beside `Page`, with which it shares what callers see (`Seen`), but no line of put, cut or byte that writes or reads.
 /// A roll over a buffer that is lent.
 #[derive(Drop)]
 pub struct Roll<'a> {
