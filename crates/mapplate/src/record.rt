@@ -1,6 +1,6 @@
 //! The record of a run, as bytes.
 
-ghost use Rattle.std.specs.Prelude.{◌≡◌, ◌<◌, ◌++◌, length, OnOk};
+ghost use Rattle.std.specs.Prelude.{◌≡◌, ◌++◌, OnOk};
 ghost use Rattle.mapplate.specs.Record.{opened, shown_attribute, shown_node, refusal};
 
 use crate::failures::Failure;
@@ -67,16 +67,11 @@ pub fn put_fault(out: &mut Vec<u8>, fault: Fault) -> Result<(), Failure>
 }
 
 /// The bytes held, as they are.
-// Kept: a store shows its bytes one by one, since those of a roll do not lie side by side.
+// A store shows its bytes one by one, since those of a roll do not lie side by side.
 pub fn put_text<S: Store>(out: &mut Vec<u8>, store: &S) -> Result<(), Failure>
     ensures { OnOk result (out.new.items ≡ out.old.items ++ S.Store.held store.now) }
 {
-    for place in 0..store.count() {
-        let Some(byte) = store.byte(place) else {
-            return Ok(());
-        };
-        out.push(byte)?;
-    }
+    out.extend((0..store.count()).map_while(|place| store.byte(place)))?;
     Ok(())
 }
 
@@ -88,14 +83,14 @@ fn put_hex(out: &mut Vec<u8>, bytes: &[u8]) -> Result<(), Failure> {
 }
 
 /// A record: its count, and its text bytes in groups.
-fn put_record(out: &mut Vec<u8>, index: usize, bytes: &[u8]) -> Result<(), Failure>
-    requires { 0 < length bytes.now }
-{
+fn put_record(out: &mut Vec<u8>, index: usize, record: &[u8]) -> Result<(), Failure> {
     write!(out, "record {index}: ")?;
-    put_hex(out, &bytes[0..1])?;
-    for group in bytes[1..].chunks(GROUP) {
-        out.extend_from_slice(b" ")?;
-        put_hex(out, group)?;
+    if let Some((count, bytes)) = record.split_first() {
+        write!(out, "{count:02x}")?;
+        for group in bytes.chunks(GROUP) {
+            out.extend_from_slice(b" ")?;
+            put_hex(out, group)?;
+        }
     }
     out.extend_from_slice(b"\n")?;
     Ok(())

@@ -3,7 +3,7 @@
 use crate::failures::Failure;
 use crate::record::{FILL, put_beyond, put_fault, put_open, put_records, put_text};
 use crate::script::{Line, Script};
-use crate::statements::{Statement, StoreChoice, StoreKind};
+use crate::statements::{Call, StoreChoice, StoreKind};
 use drawing::faults::Fault;
 use drawing::options::WriteOptions;
 use plates::elements::Element;
@@ -13,60 +13,6 @@ use std::io::Write;
 use stores::Store;
 use stores::pages::Page;
 use stores::rolls::Roll;
-
-/// What came of a call.
-fn put_answer<S: Store>(
-    out: &mut Vec<u8>,
-    plate: &Plate<S>,
-    answer: Result<(), Fault>,
-) -> Result<(), Failure> {
-    match answer {
-        Ok(()) => {
-            writeln!(
-                out,
-                ": accepted, held {}, closing {}",
-                plate.held(),
-                plate.closing_marks()
-            )?;
-            Ok(())
-        }
-        Err(fault) => put_fault(out, fault),
-    }
-}
-
-fn run_open<S: Store>(
-    out: &mut Vec<u8>,
-    plate: &mut Plate<S>,
-    options: &WriteOptions,
-    element: Element,
-    id: &[u8],
-) -> Result<(), Failure> {
-    put_open(out, element, id)?;
-    let answer = plate.open(options, element, id);
-    put_answer(out, plate, answer)
-}
-
-fn run_close<S: Store>(out: &mut Vec<u8>, plate: &mut Plate<S>) -> Result<(), Failure> {
-    out.extend_from_slice(b"close")?;
-    let answer = plate.close();
-    put_answer(out, plate, answer)
-}
-
-fn put_number(out: &mut Vec<u8>, line: &Line) -> Result<(), Failure> {
-    write!(out, "line {}: ", line.number)?;
-    Ok(())
-}
-
-fn put_counts<S: Store>(out: &mut Vec<u8>, plate: &Plate<S>) -> Result<(), Failure> {
-    let depth = plate.depth();
-    let held = plate.held();
-    let owed = plate.closing_marks();
-    writeln!(
-        out,
-        "open elements {depth}\nheld {held}\nclosing marks {owed}"
-    )?;
-    Ok(())
-}
 
 /// The first line: the store with its size, and the length of its buffer.
 fn put_store<S: Store>(out: &mut Vec<u8>, choice: StoreChoice, store: &S) -> Result<(), Failure> {
@@ -87,36 +33,84 @@ fn put_text_part<S: Store>(out: &mut Vec<u8>, store: &S) -> Result<(), Failure> 
     Ok(())
 }
 
-/// Makes the calls of a script on a new plate.
-fn run_lines<S: Store>(
-    out: &mut Vec<u8>,
-    plate: &mut Plate<S>,
-    lines: &[Line],
-) -> Result<(), Failure> {
-    let mut options = WriteOptions::new();
-    for line in lines {
-        match &line.statement {
-            Statement::Store(_) => {}
-            Statement::Options(settings) => options = settings.write_options(),
-            Statement::Open(element, id) => {
-                put_number(out, line)?;
-                run_open(out, plate, &options, *element, id.as_slice())?;
-            }
-            Statement::Close => {
-                put_number(out, line)?;
-                run_close(out, plate)?;
-            }
-        }
-    }
-    Ok(())
+/// A plate, and the record of what came of the calls on it.
+#[derive(Drop)]
+struct Recorded<'o, S> {
+    out: &'o mut Vec<u8>,
+    plate: Plate<S>,
 }
 
-/// Runs a script on a plate over a store, and gives the store back with its text in the record.
+impl<S: Store> Recorded<'_, S> {
+    /// What came of a call.
+    fn answer(&mut self, answer: Result<(), Fault>) -> Result<(), Failure> {
+        match answer {
+            Ok(()) => {
+                let held = self.plate.held();
+                let owed = self.plate.closing_marks();
+                writeln!(self.out, ": accepted, held {held}, closing {owed}")?;
+                Ok(())
+            }
+            Err(fault) => put_fault(self.out, fault),
+        }
+    }
+
+    fn open(&mut self, options: &WriteOptions, element: Element, id: &[u8]) -> Result<(), Failure> {
+        put_open(self.out, element, id)?;
+        let answer = self.plate.open(options, element, id);
+        self.answer(answer)
+    }
+
+    fn close(&mut self) -> Result<(), Failure> {
+        self.out.extend_from_slice(b"close")?;
+        let answer = self.plate.close();
+        self.answer(answer)
+    }
+
+    fn number(&mut self, number: usize) -> Result<(), Failure> {
+        write!(self.out, "line {number}: ")?;
+        Ok(())
+    }
+
+    /// Makes the calls of a script.
+    fn calls(&mut self, lines: &[Line]) -> Result<(), Failure> {
+        let mut options = WriteOptions::new();
+        for line in lines {
+            match &line.call {
+                Call::Options(settings) => options = settings.write_options(),
+                Call::Open(element, id) => {
+                    self.number(line.number)?;
+                    self.open(&options, *element, id.as_slice())?;
+                }
+                Call::Close => {
+                    self.number(line.number)?;
+                    self.close()?;
+                }
+            }
+        }
+        Ok(())
+    }
+
+    /// What the plate has come to.
+    fn counts(&mut self) -> Result<(), Failure> {
+        let depth = self.plate.depth();
+        let held = self.plate.held();
+        let owed = self.plate.closing_marks();
+        writeln!(
+            self.out,
+            "open elements {depth}\nheld {held}\nclosing marks {owed}"
+        )?;
+        Ok(())
+    }
+}
+
+/// Runs a script on a new plate over a store, and gives the store back with its text in the record.
 fn run<S: Store + Drop>(out: &mut Vec<u8>, store: S, script: &Script) -> Result<S, Failure> {
     put_store(out, script.store, &store)?;
-    let mut plate = Plate::new(store);
-    run_lines(out, &mut plate, script.lines.as_slice())?;
-    put_counts(out, &plate)?;
+    let plate = Plate::new(store);
+    let mut recorded = Recorded { out, plate };
+    recorded.calls(script.lines.as_slice())?;
+    recorded.counts()?;
+    let Recorded { out, plate } = recorded;
     let store = plate.into_store();
     put_text_part(out, &store)?;
     Ok(store)

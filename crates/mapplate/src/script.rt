@@ -1,16 +1,16 @@
-//! A whole script: its store, and its other statements with the numbers of their lines.
+//! A whole script: its store, and its calls with the numbers of their lines.
 
-use crate::statements::{Statement, StoreChoice, read_statement};
+use crate::statements::{Call, Statement, StoreChoice, read_statement};
 use scripts::cursors::Words;
 use scripts::failures::{Expected, Failure, at_script_end};
 use scripts::words::words_of;
 use std::alloc::Global;
 
-/// A statement, and the number of its line.
+/// A call, and the number of its line.
 #[derive(Drop)]
 pub struct Line {
     pub number: usize,
-    pub statement: Statement,
+    pub call: Call,
 }
 
 /// A script as it was read.
@@ -26,56 +26,65 @@ fn is_silent(line: &[u8]) -> bool {
     matches!(said, None | Some(b'#'))
 }
 
-/// Adds the statement of a line that begins with some word; the store comes first, and once.
-fn add(
-    script: &mut Option<Script>,
-    words: &Words,
-    word: &[u8],
-    statement: Statement,
-) -> Result<(), Failure> {
-    match (script.as_mut(), statement) {
-        (None, Statement::Store(store)) => {
-            *script = Some(Script {
-                store,
-                lines: Vec::new(words.heap),
-            })
-        }
-        (Some(_), Statement::Store(_)) => return Err(words.instead(Expected::OneStore, word)),
-        (None, _) => return Err(words.instead(Expected::FirstStore, word)),
-        (Some(script), statement) => script.lines.push(Line {
-            number: words.line,
-            statement,
-        })?,
-    }
-    Ok(())
+/// A script as far as it is read. Its store comes before any call.
+#[derive(Drop)]
+struct Reader {
+    heap: Global,
+    store: Option<StoreChoice>,
+    lines: Vec<Line>,
 }
 
-/// Reads the line of some number.
-fn read_line(
-    heap: Global,
-    number: usize,
-    line: &[u8],
-    script: &mut Option<Script>,
-) -> Result<(), Failure> {
-    let said = words_of(heap, number, line)?;
-    let mut words = Words::new(heap, number, said.as_slice());
-    let statement = read_statement(&mut words)?;
-    match said.first() {
-        Some(word) => add(script, &words, word.as_slice(), statement),
-        None => Ok(()),
+impl Reader {
+    fn new(heap: Global) -> Reader {
+        Reader {
+            heap,
+            store: None,
+            lines: Vec::new(heap),
+        }
+    }
+
+    /// Adds the statement of a line that begins with some word; the store comes first, and once.
+    fn add(&mut self, words: &Words, word: &[u8], statement: Statement) -> Result<(), Failure> {
+        match (self.store, statement) {
+            (None, Statement::Store(store)) => self.store = Some(store),
+            (Some(_), Statement::Store(_)) => return Err(words.instead(Expected::OneStore, word)),
+            (None, Statement::Call(_)) => return Err(words.instead(Expected::FirstStore, word)),
+            (Some(_), Statement::Call(call)) => self.lines.push(Line {
+                number: words.line,
+                call,
+            })?,
+        }
+        Ok(())
+    }
+
+    /// Reads the line of some number.
+    fn read_line(&mut self, number: usize, line: &[u8]) -> Result<(), Failure> {
+        let said = words_of(self.heap, number, line)?;
+        let mut words = Words::new(self.heap, number, said.as_slice());
+        let statement = read_statement(&mut words)?;
+        match said.first() {
+            Some(word) => self.add(&words, word.as_slice(), statement),
+            None => Ok(()),
+        }
     }
 }
 
 /// Reads a script whole. A line ends at a line feed, or at a carriage return and a line feed.
 pub fn read_script(heap: Global, text: &[u8]) -> Result<Script, Failure> {
-    let mut script = None;
-    let mut number = 0usize;
-    for line in text.split(|byte| *byte == b'\n') {
+    let mut reader = Reader::new(heap);
+    let mut last = 0;
+    for (number, line) in (1..).zip(text.split(|byte| *byte == b'\n')) {
         let line = line.strip_suffix(b"\r").unwrap_or(line);
-        number = number.saturating_add(1);
+        last = number;
         if !is_silent(line) {
-            read_line(heap, number, line, &mut script)?;
+            reader.read_line(number, line)?;
         }
     }
-    script.ok_or_else(|| at_script_end(number, Expected::FirstStore))
+    match reader.store {
+        Some(store) => Ok(Script {
+            store,
+            lines: reader.lines,
+        }),
+        None => Err(at_script_end(last, Expected::FirstStore)),
+    }
 }

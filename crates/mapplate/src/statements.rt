@@ -1,8 +1,7 @@
 //! The statements of a script: one function reads each.
 
-ghost use Rattle.std.specs.Prelude.{◌≡◌, ◌≤◌, length, IfSome, OnOk};
+ghost use Rattle.std.specs.Prelude.{◌≡◌, IfSome};
 ghost use Rattle.plates.specs.Elements.{element_name};
-ghost use Rattle.scripts.specs.Cursors.{left, FewerLeft};
 
 use crate::settings::Settings;
 use plates::elements::Element;
@@ -41,6 +40,13 @@ pub struct StoreChoice {
 #[derive(Drop)]
 pub enum Statement {
     Store(StoreChoice),
+    Call(Call),
+}
+
+/// What a line asks of the plate.
+#[derive(Drop)]
+pub enum Call {
+    /// How the calls that follow are to write.
     Options(Settings),
     Open(Element, Vec<u8>),
     Close,
@@ -50,12 +56,7 @@ fn take_size(words: &mut Words) -> Result<usize, Failure> {
     Ok(take_number(words, LONGEST, Expected::Size)? as usize)
 }
 
-fn take_precision(words: &mut Words) -> Result<u8, Failure>
-    ensures { OnOk result (FewerLeft words.old words.new) }
-{
-    Ok(take_number(words, 255, Expected::Precision)? as u8)
-}
-
+// Kept: the words of `Display` again; a list of the kinds to search would name each kind a third time.
 fn store_kind(word: &[u8]) -> Option<StoreKind> {
     match word {
         b"page" => Some(StoreKind::Page),
@@ -65,43 +66,23 @@ fn store_kind(word: &[u8]) -> Option<StoreKind> {
 }
 
 /// `store page SIZE` or `store roll SIZE`
-fn store_statement(words: &mut Words) -> Result<Statement, Failure> {
+fn store_statement(words: &mut Words) -> Result<StoreChoice, Failure> {
     let kind = words.said(Expected::StoreKind, store_kind)?;
     let length = take_size(words)?;
     words.end()?;
-    Ok(Statement::Store(StoreChoice { kind, length }))
-}
-
-fn take_prefix(words: &mut Words) -> Result<Vec<u8>, Failure>
-    ensures { OnOk result (FewerLeft words.old words.new) }
-{
-    let word = words.word(Expected::Prefix)?;
-    Ok(Vec::from_slice(words.heap, word)?)
-}
-
-fn option(words: &mut Words, name: &[u8], settings: &mut Settings) -> Result<(), Failure>
-    ensures { OnOk result (length (left words.new) ≤ length (left words.old)) }
-{
-    match name {
-        b"prefix" => settings.prefix = Some(take_prefix(words)?),
-        b"preserve" => settings.preserve_text = true,
-        b"coordinates" => settings.coordinates = take_precision(words)?,
-        b"transforms" => settings.transforms = take_precision(words)?,
-        b"single" => settings.single_quote = true,
-        _ => return Err(words.instead(Expected::OptionName, name)),
-    }
-    Ok(())
+    Ok(StoreChoice { kind, length })
 }
 
 /// `options [prefix WORD] [preserve] [coordinates N] [transforms N] [single]`
-fn options_statement(words: &mut Words) -> Result<Statement, Failure> {
+fn options_statement(words: &mut Words) -> Result<Call, Failure> {
     let mut settings = Settings::default();
     while let Some(name) = words.next() {
-        option(words, name, &mut settings)?;
+        settings.set(name, words)?;
     }
-    Ok(Statement::Options(settings))
+    Ok(Call::Options(settings))
 }
 
+// Kept: a match of names would say each name of `Element::name` again; the list says only which elements there are.
 const ELEMENTS: [Element; 7] = [
     Element::Svg,
     Element::G,
@@ -123,27 +104,27 @@ fn element_named(name: &[u8]) -> Option<Element>
 }
 
 /// `open NAME [ID]`
-fn open_statement(words: &mut Words) -> Result<Statement, Failure> {
+fn open_statement(words: &mut Words) -> Result<Call, Failure> {
     let element = words.said(Expected::ElementName, element_named)?;
     let id = Vec::from_slice(words.heap, words.next().unwrap_or_default())?;
     words.end()?;
-    Ok(Statement::Open(element, id))
+    Ok(Call::Open(element, id))
 }
 
 /// `close`
-fn close_statement(words: &mut Words) -> Result<Statement, Failure> {
+fn close_statement(words: &mut Words) -> Result<Call, Failure> {
     words.end()?;
-    Ok(Statement::Close)
+    Ok(Call::Close)
 }
 
 /// The statement of a line.
 pub fn read_statement(words: &mut Words) -> Result<Statement, Failure> {
     let word = words.word(Expected::PlateStatement)?;
-    match word {
-        b"store" => store_statement(words),
-        b"options" => options_statement(words),
-        b"open" => open_statement(words),
-        b"close" => close_statement(words),
-        _ => Err(words.instead(Expected::PlateStatement, word)),
-    }
+    Ok(match word {
+        b"store" => Statement::Store(store_statement(words)?),
+        b"options" => Statement::Call(options_statement(words)?),
+        b"open" => Statement::Call(open_statement(words)?),
+        b"close" => Statement::Call(close_statement(words)?),
+        _ => return Err(words.instead(Expected::PlateStatement, word)),
+    })
 }
