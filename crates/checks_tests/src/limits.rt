@@ -12,6 +12,7 @@ use std::process::Abort;
 use std::test::Fail;
 
 // The number of the rule that refuses the first node, if one does.
+// Kept: numbers, since they are what a record shows of a fault.
 fn drawn(drawing: Drawing<'_>) -> Result<(), u8> {
     check_draw(&drawing, 0).map_err(|fault| fault.number())
 }
@@ -33,7 +34,7 @@ fn with_nodes(nodes: &[Node]) -> Result<(), u8> {
 fn table_refused<R: Abort, F: FnOnce(&mut Sheet)>(rt: &R, change: F) -> Result<(), Fail>
     requires { F.IsAlwaysCallable change }
 {
-    refused(rt, 3, b"", 0, change)
+    refused(rt, 3, None, 0, change)
 }
 
 #[test]

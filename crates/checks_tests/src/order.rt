@@ -19,15 +19,15 @@ fn rule_before_field(rt: HostRuntime) -> Result<(), Fail> {
         dasharray: Some(NOTHING),
         ..stroke()
     };
-    refused(&rt, 4, b"stroke", 1, |sheet| {
+    refused(&rt, 4, Some(b"stroke"), 1, |sheet| {
         sheet.paths[0].fill = Some(faint);
         sheet.paths[0].stroke = Some(unnamed);
     })?;
-    refused(&rt, 5, b"stroke-dasharray", 1, |sheet| {
+    refused(&rt, 5, Some(b"stroke-dasharray"), 1, |sheet| {
         sheet.paths[0].fill = Some(faint);
         sheet.paths[0].stroke = Some(bare);
     })?;
-    refused(&rt, 5, b"d", 1, |sheet| {
+    refused(&rt, 5, Some(b"d"), 1, |sheet| {
         sheet.paths[0].fill = Some(faint);
         sheet.paths[0].data = NOTHING;
     })
@@ -35,21 +35,21 @@ fn rule_before_field(rt: HostRuntime) -> Result<(), Fail> {
 
 #[test]
 fn field_before_field(rt: HostRuntime) -> Result<(), Fail> {
-    refused(&rt, 6, b"stroke-dashoffset", 1, |sheet| {
+    refused(&rt, 6, Some(b"stroke-dashoffset"), 1, |sheet| {
         sheet.paths[0].stroke = Some(Stroke {
             dashoffset: 1e13,
             width: 0.0,
             ..stroke()
         });
     })?;
-    refused(&rt, 6, b"stroke-miterlimit", 1, |sheet| {
+    refused(&rt, 6, Some(b"stroke-miterlimit"), 1, |sheet| {
         sheet.paths[0].stroke = Some(Stroke {
             miterlimit: 0.0,
             opacity: 2.0,
             ..stroke()
         });
     })?;
-    refused(&rt, 6, b"stroke-opacity", 1, |sheet| {
+    refused(&rt, 6, Some(b"stroke-opacity"), 1, |sheet| {
         sheet.paths[0].stroke = Some(Stroke {
             opacity: 2.0,
             width: 0.0,
@@ -81,10 +81,10 @@ fn decorations(rt: HostRuntime) -> Result<(), Fail> {
         line_through: Some(faint),
         ..TextDecoration::default()
     };
-    refused(&rt, 6, b"stroke-width", 3, |sheet| {
+    refused(&rt, 6, Some(b"stroke-width"), 3, |sheet| {
         sheet.spans[1].decoration = decoration;
     })?;
-    refused(&rt, 6, b"font-size", 3, |sheet| {
+    refused(&rt, 6, Some(b"font-size"), 3, |sheet| {
         sheet.spans[1].decoration = decoration;
         sheet.spans[1].font_size = 0.0;
     })
@@ -97,11 +97,11 @@ fn put_quoted_family(sheet: &mut Sheet) {
 // A text's number comes before a span's bound, and a span's bound before a family's bytes.
 #[test]
 fn rules_of_texts(rt: HostRuntime) -> Result<(), Fail> {
-    refused(&rt, 7, b"", 3, |sheet| {
+    refused(&rt, 7, None, 3, |sheet| {
         put_quoted_family(sheet);
         sheet.spans[1].end = 2;
     })?;
-    refused(&rt, 6, b"font-size", 3, |sheet| {
+    refused(&rt, 6, Some(b"font-size"), 3, |sheet| {
         put_quoted_family(sheet);
         sheet.spans[1].end = 2;
         sheet.spans[1].font_size = 0.0;
@@ -110,11 +110,11 @@ fn rules_of_texts(rt: HostRuntime) -> Result<(), Fail> {
 
 #[test]
 fn node_before_node(rt: HostRuntime) -> Result<(), Fail> {
-    refused(&rt, 6, b"opacity", 0, |sheet| {
+    refused(&rt, 6, Some(b"opacity"), 0, |sheet| {
         sheet.groups[0].opacity = 2.0;
         sheet.paths[0].id = SPACED_ID;
     })?;
-    refused(&rt, 6, b"opacity", 4, |sheet| {
+    refused(&rt, 6, Some(b"opacity"), 4, |sheet| {
         sheet.groups[1].opacity = 2.0;
         sheet.paths[1].id = SPACED_ID;
     })
@@ -123,7 +123,7 @@ fn node_before_node(rt: HostRuntime) -> Result<(), Fail> {
 // The table rule comes before every value, and names the node that is drawn.
 #[test]
 fn table_before_value(rt: HostRuntime) -> Result<(), Fail> {
-    refused(&rt, 3, b"", 0, |sheet| {
+    refused(&rt, 3, None, 0, |sheet| {
         sheet.paths[0].id = SPACED_ID;
         sheet.paths[1].data = place(0, 7);
     })

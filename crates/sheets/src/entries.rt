@@ -9,6 +9,8 @@ use scripts::cursors::{Words, take_float};
 use scripts::failures::{Expected, Failure};
 
 /// A value that is read from one word or a few.
+// Kept: readers that are functions beside it. A `Place` has two readings, a row two ends, and what scripts reads wants no pool; so does
+// the case of an enum: an impl for all enums of `Keyword` is accepted, but `Entry::take(words, pool)` says less than `take_case(words)`.
 pub trait Entry: Copy {
     fn take(words: &mut Words, pool: &mut Vec<u8>) -> Result<Self, Failure>
         ensures { OnOk result (FewerLeft words.old words.new) };
@@ -53,34 +55,29 @@ impl Entry for BaselineShift {
     }
 }
 
-fn take_point(words: &mut Words) -> Result<Point, Failure>
-    ensures { OnOk result (FewerLeft words.old words.new) }
-{
-    Ok(Point {
-        x: take_float(words)?,
-        y: take_float(words)?,
-    })
-}
-
-fn take_quad(words: &mut Words) -> Result<PathSegment, Failure>
-    ensures { OnOk result (FewerLeft words.old words.new) }
-{
-    Ok(PathSegment::QuadTo(take_point(words)?, take_point(words)?))
-}
-
-fn take_cubic(words: &mut Words) -> Result<PathSegment, Failure>
-    ensures { OnOk result (FewerLeft words.old words.new) }
-{
-    Ok(PathSegment::CubicTo(take_point(words)?, take_point(words)?, take_point(words)?))
+impl Entry for Point {
+    fn take(words: &mut Words, _pool: &mut Vec<u8>) -> Result<Point, Failure> {
+        Ok(Point {
+            x: take_float(words)?,
+            y: take_float(words)?,
+        })
+    }
 }
 
 impl Entry for PathSegment {
-    fn take(words: &mut Words, _pool: &mut Vec<u8>) -> Result<PathSegment, Failure> {
+    fn take(words: &mut Words, pool: &mut Vec<u8>) -> Result<PathSegment, Failure> {
         match words.word(Expected::PathSegment)? {
-            b"MoveTo" => Ok(PathSegment::MoveTo(take_point(words)?)),
-            b"LineTo" => Ok(PathSegment::LineTo(take_point(words)?)),
-            b"QuadTo" => take_quad(words),
-            b"CubicTo" => take_cubic(words),
+            b"MoveTo" => Ok(PathSegment::MoveTo(Point::take(words, pool)?)),
+            b"LineTo" => Ok(PathSegment::LineTo(Point::take(words, pool)?)),
+            b"QuadTo" => Ok(PathSegment::QuadTo(
+                Point::take(words, pool)?,
+                Point::take(words, pool)?,
+            )),
+            b"CubicTo" => Ok(PathSegment::CubicTo(
+                Point::take(words, pool)?,
+                Point::take(words, pool)?,
+                Point::take(words, pool)?,
+            )),
             b"Close" => Ok(PathSegment::Close),
             word => Err(words.instead(Expected::PathSegment, word)),
         }

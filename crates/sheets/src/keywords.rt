@@ -37,5 +37,6 @@ pub fn named<K: Keyword>(word: &[u8]) -> Option<K>
 pub fn take_case<K: Keyword>(words: &mut Words) -> Result<K, Failure>
     ensures { OnOk result (FewerLeft words.old words.new) }
 {
-    words.said(Expected::Case(K::WANTED), named)
+    let word = words.word(Expected::Case(K::WANTED))?;
+    named(word).ok_or_else(|| words.instead(Expected::Case(K::WANTED), word))
 }

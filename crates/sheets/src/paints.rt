@@ -4,6 +4,7 @@ ghost use Rattle.std.specs.Prelude.{◌≡◌, ◌≤◌, length, OnOk};
 ghost use Rattle.scripts.specs.Cursors.{left, FewerLeft};
 ghost use Rattle.sheets.specs.Colors.{color_said};
 
+use crate::entries::Entry;
 use crate::keywords::take_case;
 use crate::places::{take_place, take_text};
 use crate::rows::{Row, take_fields};
@@ -26,10 +27,10 @@ fn color_said(word: &[u8]) -> Option<Color>
     })
 }
 
-pub fn take_color(words: &mut Words) -> Result<Color, Failure>
-    ensures { OnOk result (FewerLeft words.old words.new) }
-{
-    words.said(Expected::Color, color_said)
+impl Entry for Color {
+    fn take(words: &mut Words, _pool: &mut Vec<u8>) -> Result<Color, Failure> {
+        words.said(Expected::Color, color_said)
+    }
 }
 
 /// The paint that begins with a word.
@@ -40,18 +41,17 @@ fn paint_from(word: &[u8], words: &mut Words, pool: &mut Vec<u8>) -> Result<Pain
         b"LinearGradient" => Ok(Paint::LinearGradient(take_text(words, pool)?)),
         b"RadialGradient" => Ok(Paint::RadialGradient(take_text(words, pool)?)),
         b"Pattern" => Ok(Paint::Pattern(take_text(words, pool)?)),
-        _ => match color_said(word) {
-            Some(color) => Ok(Paint::Color(color)),
-            None => Err(words.instead(Expected::Paint, word)),
-        },
+        _ => color_said(word)
+            .map(Paint::Color)
+            .ok_or_else(|| words.instead(Expected::Paint, word)),
     }
 }
 
-fn take_paint(words: &mut Words, pool: &mut Vec<u8>) -> Result<Paint, Failure>
-    ensures { OnOk result (FewerLeft words.old words.new) }
-{
-    let word = words.word(Expected::Paint)?;
-    paint_from(word, words, pool)
+impl Entry for Paint {
+    fn take(words: &mut Words, pool: &mut Vec<u8>) -> Result<Paint, Failure> {
+        let word = words.word(Expected::Paint)?;
+        paint_from(word, words, pool)
+    }
 }
 
 impl Row for Fill {
@@ -59,10 +59,10 @@ impl Row for Fill {
 
     fn set(&mut self, name: &[u8], words: &mut Words, pool: &mut Vec<u8>) -> Result<(), Failure> {
         match name {
-            b"paint" => self.paint = take_paint(words, pool)?,
+            b"paint" => self.paint = Paint::take(words, pool)?,
             b"opacity" => self.opacity = take_float(words)?,
             b"rule" => self.rule = take_case(words)?,
-            _ => return Err(words.instead(Expected::Field(Self::WANTED), name)),
+            _ => return Err(Self::no_field(words, name)),
         }
         Ok(())
     }
@@ -73,7 +73,7 @@ impl Row for Stroke {
 
     fn set(&mut self, name: &[u8], words: &mut Words, pool: &mut Vec<u8>) -> Result<(), Failure> {
         match name {
-            b"paint" => self.paint = take_paint(words, pool)?,
+            b"paint" => self.paint = Paint::take(words, pool)?,
             b"dasharray" => self.dasharray = Some(take_place(words)?),
             b"dashoffset" => self.dashoffset = take_float(words)?,
             b"miterlimit" => self.miterlimit = take_float(words)?,
@@ -81,7 +81,7 @@ impl Row for Stroke {
             b"width" => self.width = take_float(words)?,
             b"linecap" => self.linecap = take_case(words)?,
             b"linejoin" => self.linejoin = take_case(words)?,
-            _ => return Err(words.instead(Expected::Field(Self::WANTED), name)),
+            _ => return Err(Self::no_field(words, name)),
         }
         Ok(())
     }
@@ -102,28 +102,28 @@ fn take_painted<R: Row, F: FnOnce(Paint) -> R>(
     }
 }
 
-pub fn take_fill(words: &mut Words, pool: &mut Vec<u8>) -> Result<Fill, Failure>
-    ensures { OnOk result (FewerLeft words.old words.new) }
-{
-    take_painted(
-        words,
-        pool,
-        |paint| Fill {
-            paint,
-            ..Fill::default()
-        },
-    )
+impl Entry for Fill {
+    fn take(words: &mut Words, pool: &mut Vec<u8>) -> Result<Fill, Failure> {
+        take_painted(
+            words,
+            pool,
+            |paint| Fill {
+                paint,
+                ..Fill::default()
+            },
+        )
+    }
 }
 
-pub fn take_stroke(words: &mut Words, pool: &mut Vec<u8>) -> Result<Stroke, Failure>
-    ensures { OnOk result (FewerLeft words.old words.new) }
-{
-    take_painted(
-        words,
-        pool,
-        |paint| Stroke {
-            paint,
-            ..Stroke::default()
-        },
-    )
+impl Entry for Stroke {
+    fn take(words: &mut Words, pool: &mut Vec<u8>) -> Result<Stroke, Failure> {
+        take_painted(
+            words,
+            pool,
+            |paint| Stroke {
+                paint,
+                ..Stroke::default()
+            },
+        )
+    }
 }

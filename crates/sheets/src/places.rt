@@ -3,6 +3,7 @@
 ghost use Rattle.std.specs.Prelude.{◌≡◌, ◌<◌, length, IfSome, OnOk, slice_index};
 ghost use Rattle.scripts.specs.Cursors.{FewerLeft};
 
+use crate::entries::Entry;
 use crate::lists::append;
 use drawing::rows::Place;
 use scripts::cursors::{Words, take_number};
@@ -51,8 +52,8 @@ pub fn take_text(words: &mut Words, pool: &mut Vec<u8>) -> Result<Place, Failure
 }
 
 /// Any number of 64 bits.
-pub fn take_count(words: &mut Words) -> Result<usize, Failure>
-    ensures { OnOk result (FewerLeft words.old words.new) }
-{
-    Ok(take_number(words, u64::MAX, Expected::Count)? as usize)
+impl Entry for usize {
+    fn take(words: &mut Words, _pool: &mut Vec<u8>) -> Result<usize, Failure> {
+        Ok(take_number(words, u64::MAX, Expected::Count)? as usize)
+    }
 }

@@ -3,11 +3,15 @@
 
 ghost use Rattle.std.specs.Prelude.{OnOk};
 ghost use Rattle.scripts.specs.Cursors.{FewerLeft};
+ghost use Rattle.scripts.specs.Failures.{TellsWord};
+ghost use Rattle.scripts.specs.declared.failures.Expected.TheVariants as Expected;
+ghost use Rattle.scripts.specs.declared.failures.Fields.{Fields};
 
 use scripts::cursors::Words;
 use scripts::failures::{Expected, Failure, Fields};
 
-// Kept: the words and the pool apart, since most readers want the words alone, and a struct of both would be taken apart for each.
+// Kept: the words and the pool apart: 64 calls of readers pass the words alone and 53 both, and a struct of both would be taken apart
+// at each of the 64.
 /// A struct of a drawing that is read field by field.
 pub trait Row: Copy + Default {
     /// Whose fields a message names.
@@ -16,6 +20,13 @@ pub trait Row: Copy + Default {
     /// Reads the value of a field.
     fn set(&mut self, name: &[u8], words: &mut Words, pool: &mut Vec<u8>) -> Result<(), Failure>
         ensures { OnOk result (FewerLeft words.old words.new) };
+
+    /// The failure at a word that names no field.
+    fn no_field(words: &Words, name: &[u8]) -> Failure
+        ensures { (fields : Fields) × TellsWord words.now.line (Expected.Field fields) name.now result }
+    {
+        words.instead(Expected::Field(Self::WANTED), name)
+    }
 }
 
 /// The fields up to the end of the line.

@@ -1,6 +1,6 @@
 //! A sheet: the lists of a drawing, owned, and the statements that add to them.
 
-ghost use Rattle.std.specs.Prelude.{◌≡◌, vec_items};
+ghost use Rattle.std.specs.Mem.{FitsInMemory};
 
 use crate::entries::{Entry, take_entries};
 use crate::lists::{MOST, append};
@@ -34,15 +34,16 @@ pub struct Sheet {
 }
 
 /// Adds a row, so many times over.
-fn add_row<R: Row + Drop>(
+fn add_row<R: Row>(
     list: &mut Vec<R>,
     pool: &mut Vec<u8>,
     times: usize,
     words: &mut Words,
-) -> Result<(), Failure> {
-    let mut rows = Vec::new(words.heap);
-    rows.push(take_row(words, pool)?)?;
-    append(words, list, rows.as_slice(), times)
+) -> Result<(), Failure>
+    requires { FitsInMemory R.row }
+{
+    let row = take_row(words, pool)?;
+    append(words, list, &[row], times)
 }
 
 /// Adds the entries of a line, so many times over.
@@ -139,12 +140,11 @@ impl Sheet {
             .unwrap_or_else(|| Err(words.instead(Expected::List, name)))
     }
 
-    /// Reads a statement that begins with a word, and says whether it is one of a table.
-    pub fn read(&mut self, name: &[u8], words: &mut Words) -> Result<bool, Failure> {
-        let added = match name {
+    /// Reads a statement that begins with a word, if it is one of a table.
+    pub fn read(&mut self, name: &[u8], words: &mut Words) -> Option<Result<(), Failure>> {
+        match name {
             b"repeat" => Some(self.add_repeated(words)),
             _ => self.add(name, 1, words),
-        };
-        Ok(added.transpose()?.is_some())
+        }
     }
 }

@@ -3,12 +3,13 @@
 ghost use Rattle.std.specs.Prelude.{OnOk};
 ghost use Rattle.scripts.specs.Cursors.{FewerLeft};
 
+use crate::entries::Entry;
 use crate::keywords::take_case;
-use crate::paints::{take_fill, take_stroke};
-use crate::places::{take_count, take_place, take_text};
+use crate::places::{take_place, take_text};
 use crate::rows::{Row, take_struct};
 use drawing::rows::{
-    Font, Text, TextChunk, TextDecoration, TextDecorationStyle, TextFlow, TextPath, TextSpan,
+    Fill, Font, Stroke, Text, TextChunk, TextDecoration, TextDecorationStyle, TextFlow, TextPath,
+    TextSpan,
 };
 use scripts::cursors::{Words, take_flag, take_float, take_number};
 use scripts::failures::{Expected, Failure, Fields};
@@ -25,7 +26,7 @@ impl Row for Text {
             b"rotate" => self.rotate = take_place(words)?,
             b"writing_mode" => self.writing_mode = take_case(words)?,
             b"chunks" => self.chunks = take_place(words)?,
-            _ => return Err(words.instead(Expected::Field(Self::WANTED), name)),
+            _ => return Err(Self::no_field(words, name)),
         }
         Ok(())
     }
@@ -38,20 +39,20 @@ impl Row for TextPath {
         match name {
             b"id" => self.id = take_text(words, pool)?,
             b"start_offset" => self.start_offset = take_float(words)?,
-            _ => return Err(words.instead(Expected::Field(Self::WANTED), name)),
+            _ => return Err(Self::no_field(words, name)),
         }
         Ok(())
     }
 }
 
 /// `Linear`, or `Path { FIELDS }`
-fn take_flow(words: &mut Words, pool: &mut Vec<u8>) -> Result<TextFlow, Failure>
-    ensures { OnOk result (FewerLeft words.old words.new) }
-{
-    match words.word(Expected::TextFlow)? {
-        b"Linear" => Ok(TextFlow::Linear),
-        b"Path" => Ok(TextFlow::Path(take_struct(words, pool)?)),
-        word => Err(words.instead(Expected::TextFlow, word)),
+impl Entry for TextFlow {
+    fn take(words: &mut Words, pool: &mut Vec<u8>) -> Result<TextFlow, Failure> {
+        match words.word(Expected::TextFlow)? {
+            b"Linear" => Ok(TextFlow::Linear),
+            b"Path" => Ok(TextFlow::Path(take_struct(words, pool)?)),
+            word => Err(words.instead(Expected::TextFlow, word)),
+        }
     }
 }
 
@@ -64,31 +65,31 @@ impl Row for TextChunk {
             b"y" => self.y = Some(take_float(words)?),
             b"anchor" => self.anchor = take_case(words)?,
             b"spans" => self.spans = take_place(words)?,
-            b"text_flow" => self.text_flow = take_flow(words, pool)?,
+            b"text_flow" => self.text_flow = TextFlow::take(words, pool)?,
             b"text" => self.text = take_text(words, pool)?,
-            _ => return Err(words.instead(Expected::Field(Self::WANTED), name)),
+            _ => return Err(Self::no_field(words, name)),
         }
         Ok(())
     }
 }
 
 /// Any number of 16 bits.
-fn take_weight(words: &mut Words) -> Result<u16, Failure>
-    ensures { OnOk result (FewerLeft words.old words.new) }
-{
-    Ok(take_number(words, 65535, Expected::Weight)? as u16)
+impl Entry for u16 {
+    fn take(words: &mut Words, _pool: &mut Vec<u8>) -> Result<u16, Failure> {
+        Ok(take_number(words, 65535, Expected::Weight)? as u16)
+    }
 }
 
 impl Row for Font {
     const WANTED: Fields = Fields::Font;
 
-    fn set(&mut self, name: &[u8], words: &mut Words, _pool: &mut Vec<u8>) -> Result<(), Failure> {
+    fn set(&mut self, name: &[u8], words: &mut Words, pool: &mut Vec<u8>) -> Result<(), Failure> {
         match name {
             b"families" => self.families = take_place(words)?,
             b"style" => self.style = take_case(words)?,
             b"stretch" => self.stretch = take_case(words)?,
-            b"weight" => self.weight = take_weight(words)?,
-            _ => return Err(words.instead(Expected::Field(Self::WANTED), name)),
+            b"weight" => self.weight = u16::take(words, pool)?,
+            _ => return Err(Self::no_field(words, name)),
         }
         Ok(())
     }
@@ -99,9 +100,9 @@ impl Row for TextDecorationStyle {
 
     fn set(&mut self, name: &[u8], words: &mut Words, pool: &mut Vec<u8>) -> Result<(), Failure> {
         match name {
-            b"fill" => self.fill = Some(take_fill(words, pool)?),
-            b"stroke" => self.stroke = Some(take_stroke(words, pool)?),
-            _ => return Err(words.instead(Expected::Field(Self::WANTED), name)),
+            b"fill" => self.fill = Some(Fill::take(words, pool)?),
+            b"stroke" => self.stroke = Some(Stroke::take(words, pool)?),
+            _ => return Err(Self::no_field(words, name)),
         }
         Ok(())
     }
@@ -115,7 +116,7 @@ impl Row for TextDecoration {
             b"underline" => self.underline = Some(take_struct(words, pool)?),
             b"overline" => self.overline = Some(take_struct(words, pool)?),
             b"line_through" => self.line_through = Some(take_struct(words, pool)?),
-            _ => return Err(words.instead(Expected::Field(Self::WANTED), name)),
+            _ => return Err(Self::no_field(words, name)),
         }
         Ok(())
     }
@@ -126,10 +127,10 @@ impl Row for TextSpan {
 
     fn set(&mut self, name: &[u8], words: &mut Words, pool: &mut Vec<u8>) -> Result<(), Failure> {
         match name {
-            b"start" => self.start = take_count(words)?,
-            b"end" => self.end = take_count(words)?,
-            b"fill" => self.fill = Some(take_fill(words, pool)?),
-            b"stroke" => self.stroke = Some(take_stroke(words, pool)?),
+            b"start" => self.start = usize::take(words, pool)?,
+            b"end" => self.end = usize::take(words, pool)?,
+            b"fill" => self.fill = Some(Fill::take(words, pool)?),
+            b"stroke" => self.stroke = Some(Stroke::take(words, pool)?),
             b"paint_order" => self.paint_order = take_case(words)?,
             b"font" => self.font = take_struct(words, pool)?,
             b"decoration" => self.decoration = take_struct(words, pool)?,
@@ -155,7 +156,7 @@ fn set_type(span: &mut TextSpan, name: &[u8], words: &mut Words) -> Result<(), F
         b"word_spacing" => span.word_spacing = take_float(words)?,
         b"text_length" => span.text_length = Some(take_float(words)?),
         b"length_adjust" => span.length_adjust = take_case(words)?,
-        _ => return Err(words.instead(Expected::Field(Fields::Span), name)),
+        _ => return Err(TextSpan::no_field(words, name)),
     }
     Ok(())
 }
