@@ -8,8 +8,8 @@ use Rattle.std.proofs.lemmas.Bool.Decides.{Decides-and, Decides-not}
 use Rattle.std.proofs.lemmas.Slice.Eq.{bytes_eq-Decides}
 use Rattle.checks.specs.declared.families.Spot.{Spot}
 use Rattle.checks.specs.declared.families.Spot.TheVariants.{Start, Hyphen, Inside}
-use Rattle.checks.specs.Families.{starts_identifier, in_identifier, one_more, spot_after, is_inside, word, reserved}
-use Rattle.checks.specs.BareNames.{Identifier, spaced, Identifiers, BareNamesStand}
+use Rattle.checks.specs.Families.{starts_identifier, in_identifier, one_more, spot_after, is_inside, word}
+use Rattle.checks.specs.BareNames.{Identifier, spaced, Identifiers, reserved, BareNamesStand}
 
 abbrev from : Option Spot → List ℕ → Bool
 from spot bytes = is_inside (fold one_more spot bytes)

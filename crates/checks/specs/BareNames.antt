@@ -1,8 +1,8 @@
 -- Which family names go without quotes, in the words of CSS.
-use Rattle.std.specs.Prelude.{◌≡◌, ℕ, true, ◌⊎◌, List, [], ◌∷◌, ◌++◌, map, Decides, ◌≢◌}
+use Rattle.std.specs.Prelude.{◌≡◌, ℕ, true, ◌⊎◌, List, [], ◌∷◌, ◌++◌, map, codes, Decides, ◌≢◌}
 use Rattle.std.specs.Char.{to_ascii_lowercase}
 use Rattle.std.specs.List.{AllByRecursion}
-use Rattle.checks.specs.Families.{starts_identifier, in_identifier, reserved, bare_name}
+use Rattle.checks.specs.Families.{starts_identifier, in_identifier, bare_name}
 
 -- a byte that starts an identifier, perhaps after a hyphen, and then bytes of identifiers
 pub record Identifier (bytes : List ℕ) : Type 0 where
@@ -24,6 +24,13 @@ pub record Identifiers (bytes : List ℕ) : Type 0 where
   pub first_one : Identifier first
   pub other_ones : AllByRecursion Identifier others
   pub spelled : bytes ≡ spaced first others
+
+-- the words that mean something else in font-family: generic families, and words of CSS; written out here too, so that a slip in the
+-- list of the test shows in the theorem
+abbrev pub reserved : List (List ℕ)
+reserved =
+    codes "serif" ∷ codes "sans-serif" ∷ codes "cursive" ∷ codes "fantasy" ∷ codes "monospace"
+    ∷ codes "inherit" ∷ codes "initial" ∷ codes "unset" ∷ codes "default" ∷ []
 
 -- A name is bare exactly when it is identifiers joined by single spaces and, as a whole and in any letter case, no such word.
 abbrev pub BareNamesStand : Type 0

@@ -89,6 +89,7 @@ fn is_first_a_move(segments: &[PathSegment]) -> bool
 
 impl Entry<'_> {
     /// The rule that looks at it.
+    #[inline(always)]
     fn rule(&self) -> Rule
         ensures { result ≡ rule_of (meant self.now) }
     {
@@ -103,6 +104,7 @@ impl Entry<'_> {
     }
 
     /// What its rule says of it.
+    #[inline(always)]
     fn verdict(&self) -> Result<(), ValueFault>
         ensures { result ≡ entry_verdict (meant self.now) }
     {
@@ -137,6 +139,7 @@ pub struct Checker<'d> {
 
 impl Checker<'_> {
     /// An entry that stands in an attribute, or in none.
+    #[inline(always)]
     #[tactic(auto, using(crate::proofs::Rules::same_rule), unfolding(crate::specs::Entries::judged))]
     pub fn check_entry(&self, attribute: Option<AId>, value: Entry) -> Result<(), AttributeFault>
         ensures { result ≡ judged self.now.rule attribute (meant value.entry) }

@@ -133,3 +133,6 @@ reads_back m w =
     let k = clean_render m [] w tt in
     let reading : Reading (written m) (plain m) = record { text = render m []; unicode = clean_scalars _ k; utf8 = refl; content = a.content; spells = a.same [] ∙ sym (clean_line_ends _ k); stands = a.stands; means = a.means } in
     record { reads = reading; only = λ other g. one_meaning (written m) other (plain m) g reading }
+
+pub render_scalars : (m : Written) → WellFormed m → scalars (render m []) ≡ true
+render_scalars m w = clean_scalars _ (clean_render m [] w tt)

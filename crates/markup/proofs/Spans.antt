@@ -132,3 +132,13 @@ space_stops (x ∷ s) r c h g = each_space (λ v. T (not (is_name_char v))) tt t
 pub name_head : (c : ℕ) (r n q : List ℕ) → T (not (is_name_start c)) → Name n → c ∷ r ≡ n ++ q → ⊥
 name_head c r [] q g h e = h
 name_head c r (d ∷ n) q g h e = not_in is_name_start h.0 g (sym (head_same e))
+
+-- white space before what is no white space is nothing
+pub no_space : (s r q : List ℕ) {c : ℕ} → ZeroOrMore is_space s → T (not (is_space c)) → s ++ r ≡ c ∷ q → (s ≡ []) × (r ≡ c ∷ q)
+no_space [] r q h g e = (refl, e)
+no_space (x ∷ s) r q h g e = absurd (not_in is_space h.0 g (head_same e))
+
+pub space_name : (s r n q : List ℕ) → ZeroOrMore is_space s → Name n → s ++ r ≡ n ++ q → r ≡ n ++ q
+space_name s r [] q a h e = elim h [ ]
+space_name [] r (c ∷ n) q a h e = e
+space_name (x ∷ s) r (c ∷ n) q a h e = absurd (not_in is_name_start h.0 (each_space (λ v. T (not (is_name_start v))) tt tt tt tt x a.0) (sym (head_same e)))

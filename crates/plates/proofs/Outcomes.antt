@@ -4,12 +4,18 @@ use Rattle.stores.specs.declared.Store.{Ghosts}
 use Rattle.markup.specs.declared.pens.Pen.{Pen}
 use Rattle.markup.specs.Pens.{PenState, pen, all_fit, called}
 use Rattle.markup.specs.State.{state}
+use Rattle.drawing.specs.declared.faults.Fault.{Fault}
 use Rattle.drawing.specs.declared.faults.Fault.TheVariants.{Full}
 use Rattle.plates.specs.declared.elements.Element.{Element}
 use Rattle.plates.specs.declared.plates.Plate.{Plate}
 use Rattle.plates.specs.Closing.{closing_marks}
 use Rattle.plates.specs.Steps.{PlateState, plate, Act, judged, added, names_after, stage_after, grown, roomy, required, answered, answer, taken, next}
 use Rattle.plates.specs.View.{view}
+
+-- a rule refuses it
+pub refused : (s : PlateState) (act : Act) (fault : Fault) → judged s.names act ≡ Err fault → (answer s act ≡ Err fault) × (next s act ≡ s)
+refused s act fault e =
+    (ap (λ z. answered z (grown s act)) e, ap (λ z. taken (answered z (grown s act)) s (grown s act)) e)
 
 -- No rule refuses the call: it fitted and was kept, or it did not and was cut back.
 

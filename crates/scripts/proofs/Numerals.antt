@@ -1,5 +1,5 @@
 -- Decimal numbers as the library reads them.
-use Rattle.std.proofs.Common.{rules, OkIff, length, ◌≡◌, ℕ, ◌<◌, ◌^◌, true, false, List, [], ◌∷◌, get_or, Ok, Err, Result, Some, None, SomeIff, MatchResult, eqb, ◌≢◌}
+use Rattle.std.proofs.Common.{rules, arith, OkIff, length, ◌≡◌, ℕ, ◌+◌, ◌-◌, ◌*◌, ◌<◌, ◌≤◌, ◌^◌, true, false, List, [], ◌∷◌, get_or, Ok, Err, Result, Some, None, SomeIff, MatchResult, eqb, ◌≢◌}
 use mathlib.Core.Bool.{false≢true}
 use Rattle.std.specs.Result.{result_ok}
 use Rattle.std.specs.Str.{IsUtf8}
@@ -39,3 +39,9 @@ text_parsed r word text e s h = at r (parse_plain own 64 word r (rw e at h) (no_
     at : {E : Type 0} (r : Result ℕ E) → OkIff r ((digits word ≡ true) × (0 < length word) × (value word < 2 ^ 64)) (value word) → SomeIff (result_ok r) (Numeral word × (value word < 2 ^ 64)) (value word)
     at (Ok x) k = (((k.0.1, k.0.0), k.0.2), k.1)
     at (Err x) k = λ n. k (n.0.1, n.0.0, n.1)
+
+-- more digits never lessen the value
+pub value_grows : (v : ℕ) (bs : List ℕ) → v ≤ value_after v bs
+unfolding value_after
+value_grows v [] = omega arith
+value_grows v (b ∷ bs) = omega (arith, value_grows (v * 10 + (b - 48)) bs)

@@ -1,8 +1,6 @@
 -- Records of a roll: what the writes of a roll do to the image, and that the reader gives back the text.
-use Rattle.std.proofs.Common.{◌≡◌, ℕ, zero, suc, ◌+◌, ◌-◌, ◌*◌, ◌%◌, ◌<◌, ◌≤◌, List, [], ◌∷◌, ◌++◌, length, get_or, take, drop, set, sym, refl, ap, ◌∙◌, mod-eq_of_lt, add-one, arith, length-append, length-drop, take-append-drop, length-take}
-use Rattle.std.proofs.lemmas.List.{take_all, drop_all, take_at, drop_at, take-take, drop-take, drop-drop, take-append-le, drop-append-le, set_at, append_assoc, get_or_append_left, get_or-append_right, get_or-take, get_or-drop, length_push, replicate-append-replicate, drop-set-lt, length-replicate}
-use Rattle.std.proofs.Math.Seq.{take-append-add}
-use borrow.Rule.Slice.PartMut.{put_mid}
+use Rattle.std.proofs.Common.{◌≡◌, ℕ, zero, suc, ◌+◌, ◌-◌, ◌*◌, ◌%◌, ◌<◌, ◌≤◌, List, [], ◌∷◌, ◌++◌, length, get_or, take, drop, set, sym, refl, ap, ◌∙◌, mod-eq_of_lt, arith, length-append, length-drop, take-append-drop, length-take}
+use Rattle.std.proofs.lemmas.List.{take_all, drop_all, take_at, drop_at, take-take, drop-take, drop-drop, take-append-le, drop-append-le, set_at, append_assoc, get_or_append_left, get_or-append_right, get_or-take, get_or-drop, length_push, replicate-append-replicate, length-replicate}
 use Rattle.stores.specs.Pages.{zeros}
 use Rattle.stores.specs.Rolls.{record_image, roll_image, record_text, roll_text}
 
@@ -88,33 +86,30 @@ image_put n q o byte held e s l =
     rw (last_record n q held l (omega arith), last_record n q (held ++ byte ∷ []) l g, roll_push q held byte h, drop-append-le (63 * q) held (byte ∷ []) h, length_push text byte, t, k, m)
     w
 
--- What cut writes, where it keeps q full records and o bytes of the next: the count there, and zeros to the end of record p.
+-- What the loss of the last byte writes, where the text left has q full records and o bytes in the next: zero for the byte, and then
+-- the count.
 
-pub image_cut : (n q o p : ℕ) (held : List ℕ) → 63 * q + o < length held → o < 63 → length held ≤ 63 * p → p ≤ n →
-    put_mid (64 * q + (o + 1)) (64 * p - (64 * q + (o + 1))) (set (roll_image n held) (64 * q) o) (zeros (64 * p - (64 * q + (o + 1)))) ≡ roll_image n (take (63 * q + o) held)
-image_cut n q o p held e s f l =
-    let m = n - (q + 1) in
-    let h : q < n = omega arith in
-    let i = 64 * q + (o + 1) in
-    let front = roll_image q held in
-    let text = drop (63 * q) held in
-    let first = take 63 text in
-    let rest = zeros (63 - length first) in
-    let more = roll_image m (drop 63 text) in
-    let new = set (roll_image n held) (64 * q) o in
-    let t : o < length text = rw length-drop (omega arith) in
-    let u : o ≤ length first = rw length-take (omega arith) in
-    let v : length (take o text) ≡ o = rw length-take (omega arith) in
-    let g : length (take (63 * q + o) held) ≤ 63 * q + 63 = rw length-take (omega arith) in
-    let w : i ≡ length front + (o + 1) = (let z = roll_length q held in omega arith) in
-    let z : i + (64 * p - i) ≡ 64 * p = omega arith in
-    let before : take i new ≡ front ++ o ∷ take o text =
-    rw (later_records n q held h, set_at front (length first) ((first ++ rest) ++ more) o (64 * q) (roll_length q held), w, take-append-add, add-one o)
-    (ap (λ xs. front ++ o ∷ xs) (take-append-le o (first ++ rest) more (rw length-append (omega arith)) ∙ take-append-le o first rest u ∙ take-take o 63 text (omega arith)))
+two_clears : (front text rest all : List ℕ) (x old count i j : ℕ) → length front ≡ i → j ≡ i + (length text + 1) →
+    set (set (front ++ x ∷ (((text ++ old ∷ []) ++ rest) ++ all)) j 0) i count ≡ front ++ count ∷ ((text ++ 0 ∷ rest) ++ all)
+two_clears front text rest all x old count i j e f =
+    let g : length (front ++ x ∷ text) ≡ j = rw length-append (omega arith) in
+    let first : set (front ++ x ∷ (((text ++ old ∷ []) ++ rest) ++ all)) j 0 ≡ front ++ x ∷ ((text ++ 0 ∷ rest) ++ all) =
+    simp append_assoc (simp append_assoc at (set_at (front ++ x ∷ text) old (rest ++ all) 0 j g))
     in
-    rw (drop-drop (64 * p - i) i new, z, drop-set-lt (64 * p) (roll_image n held) (64 * q) o (omega arith), roll_rest n p held l f, before)
-    (rw (last_record n q (take (63 * q + o) held) h g, roll_take q (63 * q + o) held (omega arith), drop-take (63 * q) o held, v, append_assoc, join (64 * p - i) (64 * (n - p)) (63 - o) (64 * m) (omega arith))
-    (ap (λ xs. front ++ o ∷ xs) (sym (append_assoc (take o text) (zeros (63 - o)) (zeros (64 * m))))))
+    ap (λ xs. set xs i count) first ∙ set_at front x ((text ++ 0 ∷ rest) ++ all) count i e
+
+pub image_drop : (n q o byte : ℕ) (held : List ℕ) → length held ≡ 63 * q + o → o < 63 → q < n →
+    set (set (roll_image n (held ++ byte ∷ [])) (64 * q + (o + 1)) 0) (64 * q) o ≡ roll_image n held
+image_drop n q o byte held e s l =
+    let text = drop (63 * q) held in
+    let t : length text ≡ o = rw length-drop (omega arith) in
+    let g : length (held ++ byte ∷ []) ≤ 63 * q + 63 = rw length_push (omega arith) in
+    let h : 63 * q ≤ length held = omega arith in
+    let k : 63 - o ≡ suc (62 - o) = omega arith in
+    let m : 63 - (o + 1) ≡ 62 - o = omega arith in
+    let w = two_clears (roll_image q held) text (zeros (62 - o)) (zeros (64 * (n - (q + 1)))) (o + 1) byte o (64 * q) (64 * q + (o + 1)) (roll_length q held) (omega arith) in
+    rw (last_record n q held l (omega arith), last_record n q (held ++ byte ∷ []) l g, roll_push q held byte h, drop-append-le (63 * q) held (byte ∷ []) h, length_push text byte, t, k, m)
+    w
 
 -- where the image has the byte at a place of the text
 pub image_byte : (n q o : ℕ) (held : List ℕ) → 63 * q + o < length held → q < n → o < 63 →

@@ -1,13 +1,11 @@
 -- The fields of a roll: what a buffer that holds an image says of them, and the writes into it.
-use Rattle.std.proofs.Common.{◌≡◌, ℕ, ◌+◌, ◌-◌, ◌*◌, ◌/◌, ◌%◌, ◌<◌, ◌≤◌, List, [], ◌∷◌, ◌++◌, length, get_or, take, drop, set, min, ap, ◌∙◌, arith, rules, length-set, length-append, length-take, length-drop}
-use Rattle.std.proofs.lemmas.List.{places, same_lists, length_push, take_at, drop_at, get_or-take, length-replicate, drop-set-lt}
-use Rattle.std.proofs.lemmas.Slice.{drop-put_mid}
+use Rattle.std.proofs.Common.{◌≡◌, ℕ, ◌+◌, ◌-◌, ◌*◌, ◌/◌, ◌%◌, ◌<◌, ◌≤◌, List, [], ◌∷◌, ◌++◌, length, get_or, take, drop, set, sym, ap, ◌∙◌, arith, length-set, length-append, length-take, length-drop}
+use Rattle.std.proofs.lemmas.List.{length_push, take_all, take_more, take_at, drop_at, get_or-take, length-replicate, drop-set-lt}
 use Rattle.std.proofs.Math.Seq.{take-set-lt}
-use borrow.Rule.Slice.PartMut.{put_mid, mid_of}
 use Rattle.stores.specs.Reach.{reach}
 use Rattle.stores.specs.Pages.{zeros}
 use Rattle.stores.specs.Rolls.{roll_image, roll_text, IsRoll}
-use Rattle.stores.proofs.Records.{image_reads, image_put, image_cut, image_byte, roll_empty}
+use Rattle.stores.proofs.Records.{image_reads, image_put, image_drop, image_byte, roll_empty}
 
 -- the fields of a roll whose text is `held`, over a buffer that was `old`
 pub record Rolled (n len : ℕ) (old buffer held : List ℕ) : Type 0 where
@@ -42,35 +40,24 @@ rolled_put n len i j byte buffer is l e f =
     (rw (take-set-lt (64 * n) first j byte (omega arith), take-set-lt (64 * n) buffer i count (omega arith), is.laid) image)
     (rw (drop-set-lt (64 * n) first j byte (omega arith), drop-set-lt (64 * n) buffer i count (omega arith)))
 
--- a write to a part of the first n
-take_mid : (n j k : ℕ) (xs zs : List ℕ) → j + k ≤ n → n ≤ length xs → length zs ≡ k → take n (put_mid j k xs zs) ≡ put_mid j k (take n xs) zs
-take_mid n j k xs zs l f e = same_lists _ _ (search (rules, places)) (λ i d h. grind (arith, places))
-
--- e is how many records hold a byte: the cut fills with zeros to their end
-pub rolled_cut : (n len count i j e : ℕ) (buffer zs : List ℕ) → IsRoll n len buffer → count < len → i ≡ 64 * (count / 63) → j ≡ 64 * (count / 63) + (count % 63 + 1) →
-    e ≡ len / 63 + min 1 (len % 63) → zs ≡ zeros (length (mid_of j (64 * e - j) (set buffer i (count % 63)))) →
-    Rolled n count buffer (put_mid j (64 * e - j) (set buffer i (count % 63)) zs) (take count (roll_text n buffer))
-rolled_cut n len count i j e buffer zs is l at from end blank =
+-- the last byte cleared, and then no longer counted
+pub rolled_drop : (n len last i j : ℕ) (buffer : List ℕ) → IsRoll n len buffer → len ≡ last + 1 → i ≡ 64 * (last / 63) → j ≡ 64 * (last / 63) + (last % 63 + 1) →
+    Rolled n last buffer (set (set buffer j 0) i (last % 63)) (take last (roll_text n buffer))
+rolled_drop n len last i j buffer is e at from =
     let held = roll_text n buffer in
-    let rest = count % 63 in
-    let k = 64 * e - j in
-    let first = set buffer i rest in
+    let kept = take last held in
+    let count = last % 63 in
+    let first = set buffer j 0 in
     let c = is.counted in
     let f = is.fits in
-    let s = is.sized in
-    let size = length-set buffer i rest in
-    let whole : 63 * (count / 63) + rest ≡ count = omega arith in
-    let in_records : 64 * e ≤ 64 * n = omega arith in
-    let in_order : j ≤ 64 * e = omega arith in
-    let mid : length (mid_of j k first) ≡ k = search (rules, places) in
-    let zeroed : zs ≡ zeros k = blank ∙ ap zeros mid in
-    let wide : length zs ≡ k = rw (zeroed, length-replicate) in
-    let image : put_mid j k (set (roll_image n held) i rest) (zeros k) ≡ roll_image n (take count held) =
-    rw (at, from) (image_cut n (count / 63) rest e held (omega arith) (omega arith) (omega arith) (omega arith) ∙ ap (λ k. roll_image n (take k held)) whole)
+    let few : length kept ≡ last = rw length-take (omega arith) in
+    let split : held ≡ kept ++ get_or held last 0 ∷ [] = sym (take_all (last + 1) held (omega arith)) ∙ take_more held last 0 (omega arith) in
+    let image : set (set (roll_image n held) j 0) i count ≡ roll_image n kept =
+    rw (at, from) (ap (λ text. set (set (roll_image n text) (64 * (last / 63) + (count + 1)) 0) (64 * (last / 63)) count) split ∙ image_drop n (last / 63) count (get_or held last 0) kept (omega arith) (omega arith) (omega arith))
     in
-    rolled n count buffer (put_mid j k first zs) (take count held) s (search (rules, places)) (rw length-take (omega arith)) (omega arith)
-    (rw (take_mid (64 * n) j k first zs (omega arith) (omega arith) wide, take-set-lt (64 * n) buffer i rest (omega arith), is.laid, zeroed) image)
-    (rw (drop-put_mid j k first zs (64 * n) (omega arith) (omega arith) wide, drop-set-lt (64 * n) buffer i rest (omega arith)))
+    rolled n last buffer (set first i count) kept is.sized (rw (length-set, length-set)) (omega arith) (omega arith)
+    (rw (take-set-lt (64 * n) first i count (omega arith), take-set-lt (64 * n) buffer j 0 (omega arith), is.laid) image)
+    (rw (drop-set-lt (64 * n) first i count (omega arith), drop-set-lt (64 * n) buffer j 0 (omega arith)))
 
 pub rolled_byte : (n len place j : ℕ) (buffer : List ℕ) → IsRoll n len buffer → place < len → j ≡ 64 * (place / 63) + (place % 63 + 1) →
     get_or buffer j 0 ≡ get_or (roll_text n buffer) place 0

@@ -2,7 +2,8 @@
 //!
 //! The page's size is the buffer's length, but at most 1,048,576; bytes beyond are never touched.
 
-ghost use Rattle.std.specs.Prelude.{◌≡◌, drop};
+ghost use Rattle.std.specs.Prelude.{◌≡◌, ◌-◌, ◌<◌, ◌≤◌, length, take, drop, OnSome};
+ghost use Rattle.stores.specs.Meaning.{ByteAt};
 ghost use Rattle.stores.specs.Reach.{reach};
 ghost use Rattle.stores.specs.Seen.{size_of, seen_empty, seen_within};
 ghost use Rattle.stores.specs.Pages.{page_image};
@@ -48,7 +49,8 @@ impl<'a> Page<'a> {
 
     /// The bytes held.
     pub fn text(&self) -> &[u8]
-        ensures { result.now ≡ self.now.held }
+        ensures held { result.now ≡ self.now.held }
+        ensures most { length result.now ≤ 1048576 }
     {
         &self.buffer[..self.len]
     }
@@ -59,6 +61,18 @@ impl<'a> Page<'a> {
         ensures reach { size_of self.now ≡ reach result.now }
     {
         &self.buffer[..]
+    }
+
+    // The last byte goes: it is cleared first, and then no longer counted.
+    fn drop_last(&mut self)
+        requires { 0 < length self.old.held }
+        ensures held { self.new.held ≡ take (length self.old.held - 1) self.old.held }
+        ensures sized { size_of self.new ≡ size_of self.old }
+        ensures beyond { self.new.beyond ≡ self.old.beyond }
+    {
+        let last = self.len - 1;
+        self.buffer[last] = 0;
+        self.len = last;
     }
 }
 
@@ -80,24 +94,36 @@ impl<'a> Store for Page<'a> {
         Ok(())
     }
 
+    // Kept: byte by byte from the last one back, and no `fill`, so that after each single write the page lays out a text: the bytes kept, and
+    // more of the old ones (the order of writes is promised).
     fn cut(&mut self, count: usize) -> Result<(), Short> {
-        if count > self.len {
+        if count > self.count() {
             return Err(Short);
         }
-        self.buffer[count..self.len].fill(0);
-        self.len = count;
+        while self.count() > count {
+            self.drop_last();
+        }
         Ok(())
     }
 
-    fn size(&self) -> usize {
+    fn size(&self) -> usize
+        ensures size { result ≡ size_of self.now }
+        ensures most { result ≤ 1048576 }
+    {
         self.size
     }
 
-    fn count(&self) -> usize {
-        self.len
+    fn count(&self) -> usize
+        ensures count { result ≡ length self.now.held }
+        ensures most { result ≤ 1048576 }
+    {
+        self.text().len()
     }
 
-    fn byte(&self, place: usize) -> Option<u8> {
+    fn byte(&self, place: usize) -> Option<u8>
+        ensures byte { ByteAt self.now.held place result }
+        ensures near { OnSome result (place < 1048576) }
+    {
         self.text().get(place).copied()
     }
 }

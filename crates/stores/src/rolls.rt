@@ -3,7 +3,8 @@
 //!
 //! The size is 63 for each whole record among the first 1,048,576 bytes; bytes after those records are never touched.
 
-ghost use Rattle.std.specs.Prelude.{◌≡◌, ℕ, ◌+◌, ◌*◌, ◌/◌, ◌%◌, ◌<◌, ◌++◌, length, drop};
+ghost use Rattle.std.specs.Prelude.{◌≡◌, ℕ, ◌+◌, ◌-◌, ◌*◌, ◌/◌, ◌%◌, ◌<◌, ◌≤◌, ◌++◌, length, take, drop, OnSome};
+ghost use Rattle.stores.specs.Meaning.{ByteAt};
 ghost use Rattle.stores.specs.Reach.{reach};
 ghost use Rattle.stores.specs.Seen.{size_of, seen_empty, seen_within};
 ghost use Rattle.stores.specs.Rolls.{records_of, roll_image, read_roll, RollReadsBack};
@@ -76,8 +77,23 @@ impl<'a> Roll<'a> {
     pub fn records(&self) -> &[u8]
         ensures image { result.now ≡ roll_image (records_of self.now) self.now.held }
         ensures sized { 64 * size_of self.now ≡ 63 * length result.now }
+        ensures most { length result.now ≤ 1048576 }
     {
         &self.buffer[..RECORD * self.records]
+    }
+
+    // The last byte goes: it is cleared first, and then no longer counted.
+    fn drop_last(&mut self)
+        requires { 0 < length self.old.held }
+        ensures held { self.new.held ≡ take (length self.old.held - 1) self.old.held }
+        ensures sized { size_of self.new ≡ size_of self.old }
+        ensures beyond { self.new.beyond ≡ self.old.beyond }
+    {
+        let last = self.len - 1;
+        let (record, place) = spot(last);
+        self.buffer[place] = 0;
+        self.buffer[record] = (last % TEXT) as u8;
+        self.len = last;
     }
 }
 
@@ -101,29 +117,37 @@ impl<'a> Store for Roll<'a> {
         Ok(())
     }
 
+    // Kept: byte by byte from the last one back, and no `fill`, so that after each single write the records lay out a text: the bytes kept,
+    // and more of the old ones (the order of writes is promised).
     fn cut(&mut self, count: usize) -> Result<(), Short> {
-        if count > self.len {
+        if count > self.count() {
             return Err(Short);
         }
-        if count < self.len {
-            let (record, place) = spot(count);
-            let end = RECORD * self.len.div_ceil(TEXT);
-            self.buffer[record] = (count % TEXT) as u8;
-            self.buffer[place..end].fill(0);
-            self.len = count;
+        while self.count() > count {
+            self.drop_last();
         }
         Ok(())
     }
 
-    fn size(&self) -> usize {
+    fn size(&self) -> usize
+        ensures size { result ≡ size_of self.now }
+        ensures whole { result ≡ 63 * (result / 63) }
+        ensures most { result ≤ 1032192 }
+    {
         TEXT * self.records
     }
 
-    fn count(&self) -> usize {
+    fn count(&self) -> usize
+        ensures count { result ≡ length self.now.held }
+        ensures most { result ≤ 1032192 }
+    {
         self.len
     }
 
-    fn byte(&self, place: usize) -> Option<u8> {
+    fn byte(&self, place: usize) -> Option<u8>
+        ensures byte { ByteAt self.now.held place result }
+        ensures near { OnSome result (place < 1032192) }
+    {
         if place >= self.len {
             return None;
         }
