@@ -77,7 +77,7 @@ pub fn put_text<S: Store>(out: &mut Vec<u8>, store: &S) -> Result<(), Failure>
 }
 
 /// A byte as two hexadecimal digits.
-// Kept: digit by digit, since with `write!` and `{:02x}` a run that fills a roll takes 1.7 times as many instructions.
+// Kept: digit by digit, since with `write!` and `{:02x}` a run that fills a roll takes more than twice as many instructions.
 fn put_hex(out: &mut Vec<u8>, byte: u8) -> Result<(), Failure> {
     out.extend_from_slice(&[hex_digit(byte / 16), hex_digit(byte % 16)])?;
     Ok(())

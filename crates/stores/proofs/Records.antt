@@ -1,4 +1,4 @@
--- Records of a roll: what the writes of a roll do to the image, and that the reader gives back the text.
+-- Records of a roll: what each write of a roll does to the image, and that the reader gives back the text.
 use Rattle.std.proofs.Common.{◌≡◌, ℕ, zero, suc, ◌+◌, ◌-◌, ◌*◌, ◌%◌, ◌<◌, ◌≤◌, List, [], ◌∷◌, ◌++◌, length, get_or, take, drop, set, sym, refl, ap, ◌∙◌, mod-eq_of_lt, arith, length-append, length-drop, take-append-drop, length-take}
 use Rattle.std.proofs.lemmas.List.{take_all, drop_all, take_at, drop_at, take-take, drop-take, drop-drop, take-append-le, drop-append-le, set_at, append_assoc, get_or_append_left, get_or-append_right, get_or-take, get_or-drop, length_push, replicate-append-replicate, length-replicate}
 use Rattle.stores.specs.Pages.{zeros}
@@ -65,51 +65,53 @@ roll_rest n p held l f =
     let m = n - p in
     rw (roll_split p m n held (omega arith), drop_at (roll_image p held) (roll_image m (drop (63 * p) held)) (64 * p) (roll_length p held), drop_all (63 * p) held f, roll_empty)
 
--- What put writes, where the text has q full records and o bytes in the next: the count there, and the byte.
+-- The writes of a roll, one at a time, where the text has q full records and o bytes in the next: the count goes up over a zero byte, or
+-- down from one; the last byte changes.
 
-two_writes : (front text rest all : List ℕ) (x old count byte i j : ℕ) → length front ≡ i → j ≡ i + (length text + 1) →
-    set (set (front ++ x ∷ ((text ++ old ∷ rest) ++ all)) i count) j byte ≡ front ++ count ∷ (((text ++ byte ∷ []) ++ rest) ++ all)
-two_writes front text rest all x old count byte i j e f =
-    let g : length (front ++ count ∷ text) ≡ j = rw length-append (omega arith) in
-    ap (λ xs. set xs j byte) (set_at front x ((text ++ old ∷ rest) ++ all) count i e) ∙ simp append_assoc (simp append_assoc at (set_at (front ++ count ∷ text) old (rest ++ all) byte j g))
-
-pub image_put : (n q o byte : ℕ) (held : List ℕ) → length held ≡ 63 * q + o → o < 63 → q < n →
-    set (set (roll_image n held) (64 * q) (o + 1)) (64 * q + (o + 1)) byte ≡ roll_image n (held ++ byte ∷ [])
-image_put n q o byte held e s l =
+-- where the text ends with a byte in that record
+ended : (n q o byte : ℕ) (held : List ℕ) → length held ≡ 63 * q + o → o < 63 → q < n →
+    roll_image n (held ++ byte ∷ []) ≡ roll_image q held ++ (o + 1) ∷ ((drop (63 * q) held ++ byte ∷ zeros (62 - o)) ++ zeros (64 * (n - (q + 1))))
+ended n q o byte held e s l =
     let text = drop (63 * q) held in
     let t : length text ≡ o = rw length-drop (omega arith) in
     let g : length (held ++ byte ∷ []) ≤ 63 * q + 63 = rw length_push (omega arith) in
     let h : 63 * q ≤ length held = omega arith in
-    let k : 63 - o ≡ suc (62 - o) = omega arith in
     let m : 63 - (o + 1) ≡ 62 - o = omega arith in
-    let w = two_writes (roll_image q held) text (zeros (62 - o)) (zeros (64 * (n - (q + 1)))) o 0 (o + 1) byte (64 * q) (64 * q + (o + 1)) (roll_length q held) (omega arith) in
-    rw (last_record n q held l (omega arith), last_record n q (held ++ byte ∷ []) l g, roll_push q held byte h, drop-append-le (63 * q) held (byte ∷ []) h, length_push text byte, t, k, m)
-    w
+    rw (last_record n q (held ++ byte ∷ []) l g, roll_push q held byte h, drop-append-le (63 * q) held (byte ∷ []) h, length_push text byte, t, m, append_assoc text (byte ∷ []) (zeros (62 - o)))
 
--- What the loss of the last byte writes, where the text left has q full records and o bytes in the next: zero for the byte, and then
--- the count.
-
-two_clears : (front text rest all : List ℕ) (x old count i j : ℕ) → length front ≡ i → j ≡ i + (length text + 1) →
-    set (set (front ++ x ∷ (((text ++ old ∷ []) ++ rest) ++ all)) j 0) i count ≡ front ++ count ∷ ((text ++ 0 ∷ rest) ++ all)
-two_clears front text rest all x old count i j e f =
-    let g : length (front ++ x ∷ text) ≡ j = rw length-append (omega arith) in
-    let first : set (front ++ x ∷ (((text ++ old ∷ []) ++ rest) ++ all)) j 0 ≡ front ++ x ∷ ((text ++ 0 ∷ rest) ++ all) =
-    simp append_assoc (simp append_assoc at (set_at (front ++ x ∷ text) old (rest ++ all) 0 j g))
-    in
-    ap (λ xs. set xs i count) first ∙ set_at front x ((text ++ 0 ∷ rest) ++ all) count i e
-
-pub image_drop : (n q o byte : ℕ) (held : List ℕ) → length held ≡ 63 * q + o → o < 63 → q < n →
-    set (set (roll_image n (held ++ byte ∷ [])) (64 * q + (o + 1)) 0) (64 * q) o ≡ roll_image n held
-image_drop n q o byte held e s l =
+-- and where it ends before that byte
+ends : (n q o : ℕ) (held : List ℕ) → length held ≡ 63 * q + o → o < 63 → q < n →
+    roll_image n held ≡ roll_image q held ++ o ∷ ((drop (63 * q) held ++ 0 ∷ zeros (62 - o)) ++ zeros (64 * (n - (q + 1))))
+ends n q o held e s l =
     let text = drop (63 * q) held in
     let t : length text ≡ o = rw length-drop (omega arith) in
-    let g : length (held ++ byte ∷ []) ≤ 63 * q + 63 = rw length_push (omega arith) in
-    let h : 63 * q ≤ length held = omega arith in
     let k : 63 - o ≡ suc (62 - o) = omega arith in
-    let m : 63 - (o + 1) ≡ 62 - o = omega arith in
-    let w = two_clears (roll_image q held) text (zeros (62 - o)) (zeros (64 * (n - (q + 1)))) (o + 1) byte o (64 * q) (64 * q + (o + 1)) (roll_length q held) (omega arith) in
-    rw (last_record n q held l (omega arith), last_record n q (held ++ byte ∷ []) l g, roll_push q held byte h, drop-append-le (63 * q) held (byte ∷ []) h, length_push text byte, t, k, m)
-    w
+    rw (last_record n q held l (omega arith), t, k)
+
+pub roll_count_up : (n q o : ℕ) (held : List ℕ) → length held ≡ 63 * q + o → o < 63 → q < n →
+    set (roll_image n held) (64 * q) (o + 1) ≡ roll_image n (held ++ 0 ∷ [])
+roll_count_up n q o held e s l =
+    let rest = (drop (63 * q) held ++ 0 ∷ zeros (62 - o)) ++ zeros (64 * (n - (q + 1))) in
+    rw (ends n q o held e s l, ended n q o 0 held e s l) (set_at (roll_image q held) o rest (o + 1) (64 * q) (roll_length q held))
+
+pub roll_count_down : (n q o : ℕ) (held : List ℕ) → length held ≡ 63 * q + o → o < 63 → q < n →
+    set (roll_image n (held ++ 0 ∷ [])) (64 * q) o ≡ roll_image n held
+roll_count_down n q o held e s l =
+    let rest = (drop (63 * q) held ++ 0 ∷ zeros (62 - o)) ++ zeros (64 * (n - (q + 1))) in
+    rw (ends n q o held e s l, ended n q o 0 held e s l) (set_at (roll_image q held) (o + 1) rest o (64 * q) (roll_length q held))
+
+pub roll_last : (n q o : ℕ) (held : List ℕ) (old new : ℕ) → length held ≡ 63 * q + o → o < 63 → q < n →
+    set (roll_image n (held ++ old ∷ [])) (64 * q + (o + 1)) new ≡ roll_image n (held ++ new ∷ [])
+roll_last n q o held old new e s l =
+    let front = roll_image q held in
+    let text = drop (63 * q) held in
+    let rest = zeros (62 - o) in
+    let all = zeros (64 * (n - (q + 1))) in
+    let f = roll_length q held in
+    let t : length text ≡ o = rw length-drop (omega arith) in
+    let g : length (front ++ (o + 1) ∷ text) ≡ 64 * q + (o + 1) = rw length-append (omega arith) in
+    rw (ended n q o old held e s l, ended n q o new held e s l)
+    (simp append_assoc (simp append_assoc at (set_at (front ++ (o + 1) ∷ text) old (rest ++ all) new (64 * q + (o + 1)) g)))
 
 -- where the image has the byte at a place of the text
 pub image_byte : (n q o : ℕ) (held : List ℕ) → 63 * q + o < length held → q < n → o < 63 →

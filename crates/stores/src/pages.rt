@@ -2,10 +2,10 @@
 //!
 //! The page's size is the buffer's length, but at most 1,048,576; bytes beyond are never touched.
 
-ghost use Rattle.std.specs.Prelude.{◌≡◌, ◌-◌, ◌<◌, ◌≤◌, length, take, drop, OnSome};
+ghost use Rattle.std.specs.Prelude.{◌≡◌, ◌<◌, ◌≤◌, length, drop, OnSome};
 ghost use Rattle.stores.specs.Meaning.{ByteAt};
 ghost use Rattle.stores.specs.Reach.{reach};
-ghost use Rattle.stores.specs.Seen.{size_of, seen_empty, seen_within};
+ghost use Rattle.stores.specs.Seen.{size_of, seen_empty, seen_with, seen_within, front};
 ghost use Rattle.stores.specs.Pages.{page_image};
 
 use crate::buffers::{clear, reach_of};
@@ -66,9 +66,7 @@ impl<'a> Page<'a> {
     // The last byte goes: it is cleared first, and then no longer counted.
     fn drop_last(&mut self)
         requires { 0 < length self.old.held }
-        ensures held { self.new.held ≡ take (length self.old.held - 1) self.old.held }
-        ensures sized { size_of self.new ≡ size_of self.old }
-        ensures beyond { self.new.beyond ≡ self.old.beyond }
+        ensures { self.new ≡ seen_with self.old (front self.old.held) }
     {
         let last = self.len - 1;
         self.buffer[last] = 0;

@@ -3,11 +3,11 @@
 //!
 //! The size is 63 for each whole record among the first 1,048,576 bytes; bytes after those records are never touched.
 
-ghost use Rattle.std.specs.Prelude.{◌≡◌, ℕ, ◌+◌, ◌-◌, ◌*◌, ◌/◌, ◌%◌, ◌<◌, ◌≤◌, ◌++◌, length, take, drop, OnSome};
+ghost use Rattle.std.specs.Prelude.{◌≡◌, ℕ, ◌+◌, ◌*◌, ◌/◌, ◌%◌, ◌<◌, ◌≤◌, [], ◌∷◌, ◌++◌, length, take, drop, OnSome};
 ghost use Rattle.stores.specs.Meaning.{ByteAt};
 ghost use Rattle.stores.specs.Reach.{reach};
-ghost use Rattle.stores.specs.Seen.{size_of, seen_empty, seen_within};
-ghost use Rattle.stores.specs.Rolls.{records_of, roll_image, read_roll, RollReadsBack};
+ghost use Rattle.stores.specs.Seen.{size_of, seen_empty, seen_with, seen_within, front};
+ghost use Rattle.stores.specs.Rolls.{records_of, roll_image, roll_text, read_roll, RollReadsBack};
 
 use crate::buffers::{clear, reach_of};
 use crate::{Full, Short, Store};
@@ -26,6 +26,8 @@ pub struct Roll<'a> {
     buffer: &'a mut [u8],
     records: usize,
     len: usize,
+    // Asked for after each single write; the invariant below is asked for only where the roll is next used whole.
+    ghost laid: { take (64 * records) buffer.now ≡ roll_image records (roll_text records buffer.now) },
 }
 
 impl<'a> Model for Roll<'a> {
@@ -82,16 +84,34 @@ impl<'a> Roll<'a> {
         &self.buffer[..RECORD * self.records]
     }
 
-    // The last byte goes: it is cleared first, and then no longer counted.
-    fn drop_last(&mut self)
+    // The writes of `put` and `cut`, each of which leaves a roll.
+
+    // The count goes up, over a zero byte.
+    fn count_up(&mut self)
+        requires { 0 < self.old.room }
+        ensures { self.new ≡ seen_with self.old (self.old.held ++ 0 ∷ []) }
+    {
+        let (record, _) = spot(self.len);
+        self.buffer[record] = (self.len % TEXT + 1) as u8;
+        self.len += 1;
+    }
+
+    // The last byte becomes another one.
+    fn set_last(&mut self, byte: u8)
         requires { 0 < length self.old.held }
-        ensures held { self.new.held ≡ take (length self.old.held - 1) self.old.held }
-        ensures sized { size_of self.new ≡ size_of self.old }
-        ensures beyond { self.new.beyond ≡ self.old.beyond }
+        ensures { self.new ≡ seen_with self.old (front self.old.held ++ byte ∷ []) }
+    {
+        let (_, place) = spot(self.len - 1);
+        self.buffer[place] = byte;
+    }
+
+    // The count goes down, from a zero byte.
+    fn count_down(&mut self)
+        requires { self.old.held ≡ front self.old.held ++ 0 ∷ [] }
+        ensures { self.new ≡ seen_with self.old (front self.old.held) }
     {
         let last = self.len - 1;
-        let (record, place) = spot(last);
-        self.buffer[place] = 0;
+        let (record, _) = spot(last);
         self.buffer[record] = (last % TEXT) as u8;
         self.len = last;
     }
@@ -110,10 +130,8 @@ impl<'a> Store for Roll<'a> {
         if self.len >= TEXT * self.records {
             return Err(Full);
         }
-        let (record, place) = spot(self.len);
-        self.buffer[record] = (self.len % TEXT + 1) as u8;
-        self.buffer[place] = byte;
-        self.len += 1;
+        self.count_up();
+        self.set_last(byte);
         Ok(())
     }
 
@@ -124,7 +142,8 @@ impl<'a> Store for Roll<'a> {
             return Err(Short);
         }
         while self.count() > count {
-            self.drop_last();
+            self.set_last(0);
+            self.count_down();
         }
         Ok(())
     }

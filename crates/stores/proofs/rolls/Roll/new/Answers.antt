@@ -3,7 +3,10 @@ use Rattle.stores.proofs.Rolled.{rolled_new}
 use Rattle.stores.proofs.rolls.Roll.new.Goals as goal
 
 pub invariant_of-result : goal.invariant_of-result
-invariant_of-result c = (rolled_new _ c.args.buffer.now _ (omega arith) c.clear.ensures).is
+invariant_of-result c = ((rolled_new _ c.args.buffer.now _ (omega arith) c.clear.ensures).is.laid, tt)
+
+pub invariant_of-result-2 : goal.invariant_of-result-2
+invariant_of-result-2 c = (rolled_new _ c.args.buffer.now _ (omega arith) c.clear.ensures).is
 
 pub returns : goal.returns
 returns c =
