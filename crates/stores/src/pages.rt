@@ -2,7 +2,7 @@
 //!
 //! The page's size is the buffer's length, but at most 1,048,576; bytes beyond are never touched.
 
-ghost use Rattle.std.specs.Prelude.{◌≡◌, ◌<◌, ◌≤◌, length, drop, OnSome};
+ghost use Rattle.std.specs.Prelude.{◌≡◌, ◌<◌, ◌≤◌, [], ◌∷◌, ◌++◌, length, drop, OnSome};
 ghost use Rattle.stores.specs.Meaning.{ByteAt};
 ghost use Rattle.stores.specs.Reach.{reach};
 ghost use Rattle.stores.specs.Seen.{size_of, seen_empty, seen_with, seen_within, front};
@@ -63,14 +63,23 @@ impl<'a> Page<'a> {
         &self.buffer[..]
     }
 
-    // The last byte goes: it is cleared first, and then no longer counted.
-    fn drop_last(&mut self)
+    // The writes of `cut`, each of which leaves a page.
+
+    // The last byte is cleared.
+    fn clear_last(&mut self)
         requires { 0 < length self.old.held }
-        ensures { self.new ≡ seen_with self.old (front self.old.held) }
+        ensures { self.new ≡ seen_with self.old (front self.old.held ++ 0 ∷ []) }
     {
         let last = self.len - 1;
         self.buffer[last] = 0;
-        self.len = last;
+    }
+
+    // A zero byte at the end is no longer counted.
+    fn count_down(&mut self)
+        requires { self.old.held ≡ front self.old.held ++ 0 ∷ [] }
+        ensures { self.new ≡ seen_with self.old (front self.old.held) }
+    {
+        self.len -= 1;
     }
 }
 
@@ -99,7 +108,8 @@ impl<'a> Store for Page<'a> {
             return Err(Short);
         }
         while self.count() > count {
-            self.drop_last();
+            self.clear_last();
+            self.count_down();
         }
         Ok(())
     }

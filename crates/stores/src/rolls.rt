@@ -26,7 +26,7 @@ pub struct Roll<'a> {
     buffer: &'a mut [u8],
     records: usize,
     len: usize,
-    // Asked for after each single write; the invariant below is asked for only where the roll is next used whole.
+    // Asked for after each write through `buffer`; the invariant below is asked for only where the roll is next used whole.
     ghost laid: { take (64 * records) buffer.now ≡ roll_image records (roll_text records buffer.now) },
 }
 
